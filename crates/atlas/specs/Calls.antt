@@ -33,8 +33,9 @@ pub record Succeeds (words : List (List ℕ)) (files : Files) (a : Answer) : Typ
   pub done : a.status ≡ Success
 
 -- the tables behind are exact, each over those before it, and TABLE is exact over all of them. FEN
--- is a position of its set, and the text tells the bounds of both sides there, which hold in chess.
--- Exits have the values of TABLE's exit lines, and of the tables behind where these say nothing
+-- is a position of its set, and the text tells the bounds of both sides there, which say of chess
+-- what Means states, under the premise that the exits are true. Exits have the values of TABLE's
+-- exit lines, and of the tables behind where these say nothing
 pub record TellsBoundsOver (table : List ℕ) (behind : List (List ℕ)) (fen : List ℕ)
     (files : Files) (text : List ℕ) : Type 0 where
   pub exact : AtlasHeadline table behind files

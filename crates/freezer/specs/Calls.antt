@@ -72,7 +72,7 @@ abbrev pub Stays : (table : List ℕ) → Files → (later : ℕ → Files) → 
 Stays table files later = (k : ℕ) → later k table ≡ files table
 
 -- TABLE is exact, FEN is a position of its set, and the text tells the bounds of both sides there,
--- which hold in chess
+-- which say of chess what Means states, under the premise that the exits are true
 pub record TellsTrueBounds (table fen : List ℕ) (files : Files) (text : List ℕ) : Type 0 where
   pub exact : Headline table files
   pub p : Board
@@ -98,8 +98,9 @@ pub record TellsSolvedBounds (rules fen : List ℕ) (files : Files) (text : List
   pub solved : TellsSolved rules p files text
 
 -- the text is the report of the file. Each code that the report uses, of either side at any
--- position of the set, is that of the bound there, which holds in chess. Where the exits are true,
--- each listed pair (a squeeze) that shows a win is a mutual zugzwang of chess
+-- position of the set, is that of the bound there, which says of chess what Means states, under the
+-- premise that the exits are true. Where they are, each listed pair (a squeeze) that shows a win is
+-- a mutual zugzwang of chess
 pub record TellsTrueReport (table : List ℕ) (files : Files) (text : List ℕ) : Type 0 where
   pub tells : TellsReport table files text
   pub bounds : (side : Colour) (p : Board) → Member tells.contents.rules.groups p →
@@ -117,7 +118,7 @@ pub record TellsTrueReport (table : List ℕ) (files : Files) (text : List ℕ) 
       IsZugzwang Black s.position squeeze.other
 
 -- the text is the line of the side from the position. The bound that it begins with is that of the
--- position, and holds in chess
+-- position, and says of chess what Means states, under the premise that the exits are true
 pub record TellsTrueLine (later : ℕ → Files) (table fen word : List ℕ) (files : Files)
     (text : List ℕ) : Type 0 where
   pub p : Board
@@ -129,8 +130,8 @@ pub record TellsTrueLine (later : ℕ → Files) (table fen word : List ℕ) (fi
       (lines.start_code tells.has)
 
 -- the text is the session of the side from the position. The bound that it begins with is that of
--- the position, and holds in chess. Where the exits are true, the opponent cannot force mate after
--- any ply
+-- the position, and says of chess what Means states, under the premise that the exits are true.
+-- Where they are, the opponent cannot force mate after any ply
 pub record TellsTrueSession (later : ℕ → Files) (table fen word : List ℕ) (files : Files)
     (input text : List ℕ) : Type 0 where
   pub p : Board

@@ -6,7 +6,9 @@ use Rattle.frz_answer.specs.declared.status.Status.{Status}
 use Rattle.frz_answer.specs.World.{Spent}
 use Rattle.frz_answer.specs.Answers.{Answer}
 
--- how a job reads the files that its answers speak of: none of them, or each place once
+-- whether the answers of a job depend on the files. With `Never` an answer is one over whichever
+-- files are chosen, as Answered says. `Once` is the other case, and binds nothing: no clause says
+-- that a place is read once, and only the costs bound the calls of the store
 pub data Reads : Type 0 where
   Never : Reads
   Once : Reads

@@ -1,4 +1,4 @@
--- The words behind a command's name: how many there are, and the refusal of those that do not fit.
+-- The words after a command's name: how many there are, and the refusal of those that do not fit.
 use Rattle.std.specs.Prelude.{◌≡◌, ℕ, List, [], ◌∷◌, Bool, true, false, Option, Some, None}
 use lib.Chars.{codes}
 use Rattle.frz_answer.specs.declared.status.Status.TheVariants.{Words}

@@ -12,6 +12,7 @@ pub enum Fault {
 }
 
 impl Fault {
+    /// The status with which the program ends at this fault: 8, 10 or 11.
     pub fn code(self) -> u8
         ensures { result ≡ fault_code self }
     {
@@ -22,6 +23,7 @@ impl Fault {
         }
     }
 
+    /// The line that names the fault, with its line feed.
     pub fn line(self) -> &'static [u8]
         ensures { result.now ≡ fault_line self }
     {

@@ -19,6 +19,7 @@ pub enum Status {
 }
 
 impl Status {
+    /// The number with which the program ends: 0 for success, 2 to 15 for the others.
     pub fn code(self) -> u8
         ensures { result ≡ code_of self }
     {

@@ -1,4 +1,4 @@
-//! The words behind a command's name.
+//! The words after a command's name.
 ghost use Rattle.std.specs.Prelude.{◌≡◌, map};
 ghost use Rattle.std.specs.Option.{option_map};
 ghost use Rattle.std.specs.String.{string_bytes};
@@ -28,6 +28,7 @@ impl Refusal {
     }
 }
 
+/// The word, where there is just one; else `None`.
 pub fn one_word(words: &[String]) -> Option<&str>
     ensures { option_map (λ word. word.now) result ≡ one_word_of (map string_bytes words.now) }
 {
@@ -37,6 +38,7 @@ pub fn one_word(words: &[String]) -> Option<&str>
     }
 }
 
+/// Both words, where there are just two; else `None`.
 pub fn two_words(words: &[String]) -> Option<(&str, &str)>
     ensures { option_map (λ both. (both.0.now, both.1.now)) result
         ≡ two_words_of (map string_bytes words.now) }
@@ -47,6 +49,7 @@ pub fn two_words(words: &[String]) -> Option<(&str, &str)>
     }
 }
 
+/// All three words, where there are just three; else `None`.
 pub fn three_words(words: &[String]) -> Option<(&str, &str, &str)>
     ensures { option_map (λ all. (all.0.now, all.1.now, all.2.now)) result
         ≡ three_words_of (map string_bytes words.now) }

@@ -58,7 +58,9 @@ goal_by false Good lag = Some lag
 goal_by false Safe lag = None
 goal_by false Bad lag = None
 
--- the goals of a side: the positions outside the set whose value is good for it, with their lags
+-- the goals of a side: the positions outside the set whose value is good for it, with their lags.
+-- Each such position is a goal, and not only an exit: also one that lies beyond an exit whose value
+-- is not good for the side, as an unknown one
 abbrev pub goals_of : {P M V : Type 0} → Game P M V → Colour → P → Option ℕ
 goals_of game side q =
     goal_by (game.member q) (game.class (game.value q) side) (game.lag (game.value q))

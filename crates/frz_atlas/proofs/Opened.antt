@@ -140,7 +140,9 @@ judged_as b before table white black bytes v is read opens white_is black_is h =
       (contents_of table) bytes v) (sym is)
       (verdict_on (kind_by b) (value_over b table.rules before) (contents_of table) bytes v are
       (table_exact table.rules (value_over b table.rules before))
-      (plies_few table.rules (value_over b table.rules before) (over_small b table.rules before (text_sound table.text table.rules read))) read opens on_codes);
+      (plies_few table.rules (value_over b table.rules before)
+      (over_small b table.rules before (text_sound table.text table.rules read)))
+      read opens on_codes);
 }
   where
     by_side : (side : Colour) → of_side side white black ≡ kept_codes (contents_of table) bytes side

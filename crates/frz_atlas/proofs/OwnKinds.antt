@@ -149,32 +149,32 @@ as_it_is : (name bytes : List ℕ) (fault : TableFault) → AreBytes bytes
 as_it_is name bytes fault are h =
     record { held = Some bytes; may = are; refuses = h; text = refl }
 
-untold : (b : Bool) (name : List ℕ) (held : Option (List ℕ)) (fault : TableFault)
+untold_alike : (b : Bool) (name : List ℕ) (held : Option (List ℕ)) (fault : TableFault)
     → IfSome held AreBytes → Refuses (opened (table_format (kind_by b)) held) fault
     → RefusedAlike None name held fault
 unfolding opened
-untold b name None fault may h = record { held = None; may = tt; refuses = h; text = refl }
-untold b name (Some bytes) Magic may h = begun_otherwise b name bytes may h
-untold b name (Some bytes) Missing may h =
+untold_alike b name None fault may h = record { held = None; may = tt; refuses = h; text = refl }
+untold_alike b name (Some bytes) Magic may h = begun_otherwise b name bytes may h
+untold_alike b name (Some bytes) Missing may h =
     as_it_is name bytes Missing may (refused_own b bytes Missing (λ e. absurd (cc)) h)
-untold b name (Some bytes) (Truncated n due) may h =
+untold_alike b name (Some bytes) (Truncated n due) may h =
     as_it_is name bytes (Truncated n due) may
     (refused_own b bytes (Truncated n due) (λ e. absurd (cc)) h)
-untold b name (Some bytes) (Extra n due) may h =
+untold_alike b name (Some bytes) (Extra n due) may h =
     as_it_is name bytes (Extra n due) may (refused_own b bytes (Extra n due) (λ e. absurd (cc)) h)
-untold b name (Some bytes) (Rules f) may h =
+untold_alike b name (Some bytes) (Rules f) may h =
     as_it_is name bytes (Rules f) may (refused_own b bytes (Rules f) (λ e. absurd (cc)) h)
-untold b name (Some bytes) (Size kept due) may h =
+untold_alike b name (Some bytes) (Size kept due) may h =
     as_it_is name bytes (Size kept due) may
     (refused_own b bytes (Size kept due) (λ e. absurd (cc)) h)
-untold b name (Some bytes) Failed may h = as_it_is name bytes Failed may tt
-untold b name (Some bytes) NoMemory may h = as_it_is name bytes NoMemory may tt
+untold_alike b name (Some bytes) Failed may h = as_it_is name bytes Failed may tt
+untold_alike b name (Some bytes) NoMemory may h = as_it_is name bytes NoMemory may tt
 
 refused_alike : (b : Bool) (files : Option Files) (name : List ℕ) (held : Option (List ℕ))
     (fault : TableFault) → IfSome files (λ m. kind_held (m name) ≡ kind_by b)
     → MayHold files name held → Refuses (opened (table_format (kind_by b)) held) fault
     → RefusedAlike files name held fault
-refused_alike b None name held fault known may h = untold b name held fault may h
+refused_alike b None name held fault known may h = untold_alike b name held fault may h
 refused_alike b (Some m) name held fault known may h = record {
   held = held;
   may = may;

@@ -39,15 +39,15 @@ unfolding first_value
 front_tells back backs q = refl
 
 -- where there is one table, the value is what it tells
-alone : (back : Back) (o : Option ℕ) → told_or back Unknown o ≡ told_at back o
-alone back None = refl
-alone back (Some i) = refl
+one_table_tells : (back : Back) (o : Option ℕ) → told_or back Unknown o ≡ told_at back o
+one_table_tells back None = refl
+one_table_tells back (Some i) = refl
 
 pub one_tells : (back : Back) (q : Board) → first_value (back ∷ []) q ≡ back_value back q
 one_tells back q =
     front_tells back [] q
     ∙ (ap (λ v. told_or back v (number_of back.groups q)) (none_tell q)
-    ∙ alone back (number_of back.groups q))
+    ∙ one_table_tells back (number_of back.groups q))
 
 -- from a place on in the list of the tables that were loaded
 abbrev pub told_from : ℕ → List BackTable → Board → Value

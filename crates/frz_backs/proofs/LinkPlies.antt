@@ -14,7 +14,7 @@ use Rattle.frz_chain.specs.Books.{Back, back_value}
 use Rattle.frz_chain.specs.ChainPlies.{OwnWinsNumbered, WinsWithinPlies}
 use Rattle.frz_chain.specs.FileOn.{IsExactBack}
 use Rattle.frz_chain.proofs.Lemmas.{back_forced, forced_later, table_forced, win_forced}
-use Rattle.frz_backs.specs.LinkPlies.{AreWithinPlies, longest_over, plies_through}
+use Rattle.frz_backs.specs.LinkPlies.{AreWithinPlies, MatesOver, longest_over, plies_through}
 use Rattle.frz_backs.specs.Links.{AreExact, AreExactOver, AreTrueLines, Link, backs_of, value_over}
 use Rattle.frz_backs.specs.Values.{atlas_value}
 use Rattle.frz_backs.proofs.TablePlies.{TellsWithin, over_forced}
@@ -88,13 +88,9 @@ pub tables_within : (links : List Link) → AreExact links → AreTrueLines link
 tables_within links exact lines side most within =
     each_within [] links side 0 most (All-nil (TellsWithin side 0)) exact lines within
 
-pub mates_within : (rules : RuleLines) (links : List Link) → AreExact links → AreTrueLines links →
-    AreTrueExits rules (value_by rules) → (side : Colour) →
-    OwnWinsNumbered rules (atlas_value rules (backs_of links)) side → (most : Link → ℕ) →
-    AreWithinPlies [] links side most → (n : ℕ) (p : Board) →
-    IsBoundAt rules (atlas_value rules (backs_of links)) side p (Wins n) →
-    ForcesMate chess side (n + longest_over 0 links most) p
-mates_within rules links exact lines own side numbered most within n p bound =
+pub mates_within : (rules : RuleLines) (links : List Link) → AreExact links → (side : Colour) →
+    MatesOver rules links side
+mates_within rules links exact side lines own numbered most within n p bound =
     let longest = longest_over 0 links most in
     win_forced rules (atlas_value rules (backs_of links)) side longest
     (over_forced rules (backs_of links) side longest

@@ -1,4 +1,4 @@
--- The codes of a table over several others say of chess what they say of the restricted game.
+-- What the codes of a table over several others say of chess, where all exit lines are true.
 use Rattle.std.proofs.Common.{ℕ, List}
 use Rattle.frz_board.specs.declared.man.Colour.{Colour}
 use Rattle.frz_sets.specs.Views.{RuleLines}

@@ -1,9 +1,18 @@
 -- The plies within which a win over several tables mates.
 use Rattle.std.specs.Prelude.{◌+◌, max, ℕ, List, [], ◌∷◌, ◌++◌, Bool, true, false, ⊤}
+use Rattle.frz_board.specs.Boards.{Board}
 use Rattle.frz_board.specs.declared.man.Colour.{Colour}
+use Rattle.frz_sets.specs.Views.{RuleLines}
+use Rattle.frz_exits.specs.Books.{value_by}
+use Rattle.frz_arena.specs.declared.bound.Bound.TheVariants.{Wins}
+use Rattle.frz_arena.specs.Chess.{ForcesMate}
+use Rattle.frz_game.specs.Bounds.{IsBoundAt}
+use Rattle.frz_game.specs.Games.{chess}
+use Rattle.frz_game.specs.Values.{AreTrueExits}
 use Rattle.frz_chain.specs.Books.{Back}
 use Rattle.frz_chain.specs.ChainPlies.{OwnWinsNumbered, WinsWithinPlies}
-use Rattle.frz_backs.specs.Links.{Link, value_over}
+use Rattle.frz_backs.specs.Links.{AreTrueLines, Link, backs_of, value_over}
+use Rattle.frz_backs.specs.Values.{atlas_value}
 
 -- the plies to mate from a table whose longest win has `most` plies: where the table leans on
 -- others, those of the tables before it are added
@@ -25,3 +34,13 @@ AreWithinPlies before (link ∷ links) side most =
     WinsWithinPlies link.back side (most link)
     × OwnWinsNumbered link.rules (value_over link.leans link.rules before) side
     × AreWithinPlies (before ++ (link.back ∷ [])) links side most
+
+-- a win within n over the tables forces mate within n plies and those of the longest win behind it,
+-- where the exit lines of all texts are true, and each by which the side wins gives its plies
+abbrev pub MatesOver : RuleLines → List Link → Colour → Type 0
+MatesOver rules links side =
+    AreTrueLines links → AreTrueExits rules (value_by rules) →
+    OwnWinsNumbered rules (atlas_value rules (backs_of links)) side →
+    (most : Link → ℕ) → AreWithinPlies [] links side most →
+    (n : ℕ) (p : Board) → IsBoundAt rules (atlas_value rules (backs_of links)) side p (Wins n) →
+    ForcesMate chess side (n + longest_over 0 links most) p

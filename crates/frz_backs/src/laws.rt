@@ -15,7 +15,7 @@ ghost use Rattle.frz_chain.specs.Books.{Back, back_value, chain_value};
 ghost use Rattle.frz_chain.specs.ChainPlies.{OwnWinsNumbered};
 ghost use Rattle.frz_chain.specs.Transfer.{TellsChess};
 ghost use Rattle.frz_backs.specs.Decided.{AreLinesOrTables, HasBothOutcomes};
-ghost use Rattle.frz_backs.specs.LinkPlies.{AreWithinPlies, longest_over};
+ghost use Rattle.frz_backs.specs.LinkPlies.{MatesOver};
 ghost use Rattle.frz_backs.specs.Links.{AreExact, AreTrueLines, Link, backs_of};
 ghost use Rattle.frz_backs.specs.Values.{atlas_value};
 
@@ -42,7 +42,8 @@ pub fn exits_over_tables_true()
         AreTrueExits rules (atlas_value rules (backs_of links)) }
 {}
 
-/// The codes of a table over such tables say of chess what they say of the restricted game.
+/// The codes of a table over such tables say of chess what `TellsChess` states of wins and holds,
+/// where the exit lines of its own rules are true too.
 pub fn codes_over_tables_tell()
     ensures { (rules : RuleLines) (links : List Link) → AreExact links → AreTrueLines links →
         AreTrueExits rules (value_by rules) → (side : Colour) (codes : List ℕ) →
@@ -50,16 +51,13 @@ pub fn codes_over_tables_tell()
         TellsChess rules (atlas_value rules (backs_of links)) side codes }
 {}
 
-/// A win within n by a table over such tables forces mate within n plies and those of the longest
-/// win behind it.
+/// Let the exit lines of a table over such tables be true too. Let the exit lines by which the side
+/// wins, its own and those of the tables behind it, give a number of plies, and let no win of the
+/// side in these tables take more than `most` plies. Then a win within n by the table forces mate
+/// within n plies and those that `longest_over` counts.
 pub fn plies_over_tables()
-    ensures { (rules : RuleLines) (links : List Link) → AreExact links → AreTrueLines links →
-        AreTrueExits rules (value_by rules) → (side : Colour) →
-        OwnWinsNumbered rules (atlas_value rules (backs_of links)) side →
-        (most : Link → ℕ) → AreWithinPlies [] links side most →
-        (n : ℕ) (p : Board) →
-        IsBoundAt rules (atlas_value rules (backs_of links)) side p (Wins n) →
-        ForcesMate chess side (n + longest_over 0 links most) p }
+    ensures { (rules : RuleLines) (links : List Link) → AreExact links → (side : Colour) →
+        MatesOver rules links side }
 {}
 
 /// If the outcomes in the tables are those of chess, and each way out of the set is decided by an

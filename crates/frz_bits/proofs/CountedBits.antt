@@ -33,9 +33,9 @@ one_more f a (suc n) =
     )
 
 -- the highest bit stands before the bits below it
-shown : (x : Bool) (r n : ℕ) → r + cond x (2 ^ n) 0 ≡ cond x 1 0 * 2 ^ n + r
-shown true r n = omega arith
-shown false r n = omega arith
+high_bit_first : (x : Bool) (r n : ℕ) → r + cond x (2 ^ n) 0 ≡ cond x 1 0 * 2 ^ n + r
+high_bit_first true r n = omega arith
+high_bit_first false r n = omega arith
 
 one_bit : (x : Bool) → count_ones (cond x 1 0) ≡ cond x 1 0
 one_bit true =
@@ -51,7 +51,7 @@ ones_below f (suc n) =
     let e : 0 + n ≡ n = omega arith in
     omega (
       arith,
-      ap count_ones (shown (f n) (bits_below f n) n),
+      ap count_ones (high_bit_first (f n) (bits_below f n) n),
       ones_cat n (cond (f n) 1 0) (bits_below f n) (bits_below-small f n),
       one_bit (f n),
       ones_below f n,
@@ -64,9 +64,9 @@ unfolding set_of squares
 ones_of f = ones_below f 64
 
 -- the cells, read square by square
-reads : (xs : List ℕ) → length xs ≡ 64 → map (λ s. slice_index xs s) squares ≡ xs
+read_by_square : (xs : List ℕ) → length xs ≡ 64 → map (λ s. slice_index xs s) squares ≡ xs
 unfolding squares
-reads xs h =
+read_by_square xs h =
     same_number_lists _ _ (length-map-range_with_len (λ s. slice_index xs s) 0 64 ∙ sym h)
     (λ i l. get_or-map-range_with_len (λ s. slice_index xs s) 0 64 i i 0
     (omega (arith, length-map-range_with_len (λ s. slice_index xs s) 0 64)) (omega arith))
@@ -86,7 +86,7 @@ pub count_by_squares : (t : ℕ → Bool) (xs : List ℕ) → length xs ≡ 64 �
     count_by (λ s. t (slice_index xs s)) squares ≡ count_by t xs
 count_by_squares t xs h =
     sym (sum_by-map (λ x. cond (t x) 1 0) (λ s. slice_index xs s) squares)
-    ∙ ap (λ ys. count_by t ys) (reads xs h)
+    ∙ ap (λ ys. count_by t ys) (read_by_square xs h)
 
 pub men_by_squares : (p : Board) (c : Colour) → length p.cells ≡ 64 →
     count_by (λ s. holds p c s) squares ≡ men_of p c

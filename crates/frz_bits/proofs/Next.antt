@@ -23,8 +23,8 @@ none_left w n e =
     record { none = λ k l m. moved w n k l ∙ ap (λ v. has_square v (k - n)) e ∙ has-zero (k - n) }
 
 -- a set bit is below 64
-inside : (w k : ℕ) → w < 2 ^ 64 → bit_at w k ≡ 1 → k < 64
-inside w k small b =
+bit_below_64 : (w k : ℕ) → w < 2 ^ 64 → bit_at w k ≡ 1 → k < 64
+bit_below_64 w k small b =
     elim (cases_lt k 64) [
       | inl l ↦ l
       | inr l ↦ absurd (let none = bit_at_above w 64 k small l in omega arith)
@@ -40,7 +40,7 @@ next_is w n small some =
     (sym (shr-shr w n (trailing_zeros w64 rest))) ∙ t.1 in
     record {
       from = omega arith;
-      on_board = inside w (n + trailing_zeros w64 rest) small there;
+      on_board = bit_below_64 w (n + trailing_zeros w64 rest) small there;
       there = eq-eqb (bit_at w (n + trailing_zeros w64 rest)) 1 there;
       first = λ k l m. moved w n k l ∙ ap (λ b. b == 1) (t.2 (k - n) (omega arith));
     }

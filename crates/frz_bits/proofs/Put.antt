@@ -41,11 +41,11 @@ taken_out w s k ls lk =
           ∙ sym (ap (λ x. if x then false else has_square w k) e.0)
     ]
 
-choose : (t : Bool) (c : Colour) (v x : ℕ) →
+man_of_either : (t : Bool) (c : Colour) (v x : ℕ) →
     is_man_of c (man_of_cell (if t then v else x))
     ≡ (if t then is_man_of c (man_of_cell v) else is_man_of c (man_of_cell x))
-choose true c v x = refl
-choose false c v x = refl
+man_of_either true c v x = refl
+man_of_either false c v x = refl
 
 side_put : (p : Board) (c : Colour) (w s v r : ℕ) → length p.cells ≡ 64 → s < 64 →
     w ≡ set_of (λ k. holds p c k) → r < 2 ^ 64 →
@@ -58,7 +58,7 @@ side_put p c w s v r size ls e small h =
     ∙ ap (λ x. if k == s then is_man_of c (man_of_cell v) else x)
     (ap (λ u. has_square u k) e ∙ has-set_of (λ j. holds p c j) k l)
     ∙ sym (ap (λ x. is_man_of c (man_of_cell x)) (set_at p.cells s v k (omega arith))
-    ∙ choose (k == s) c v (slice_index p.cells k)))
+    ∙ man_of_either (k == s) c v (slice_index p.cells k)))
 
 pub put_keeps : (p : Board) (white black s v r q : ℕ) → HasSides p white black → s < 64 → v < 13 →
     r < 2 ^ 64 → q < 2 ^ 64 →

@@ -49,13 +49,13 @@ one_rank : (c : Colour) (a s : ℕ) → is_forward c 1 a s ≡ true → ranks_ap
 one_rank White a s h = let ahead = eqb-true (rank_of s) (rank_of a + 1) h in omega arith
 one_rank Black a s h = let ahead = eqb-true (rank_of a) (rank_of s + 1) h in omega arith
 
-diagonal : (x y f r : ℕ) → (x ≡ y → f ≡ 0) → f ≡ 1 → r ≡ 1 → (not (x == y) && f == r) ≡ true
-diagonal x y f r df one same = grind (arith, nat_tests)
+on_diagonal : (x y f r : ℕ) → (x ≡ y → f ≡ 0) → f ≡ 1 → r ≡ 1 → (not (x == y) && f == r) ≡ true
+on_diagonal x y f r df one same = grind (arith, nat_tests)
 
 pawn_line : (c : Colour) (a s : ℕ) → pawn_reaches c a s ≡ true → is_bishop_line a s ≡ true
 pawn_line c a s h =
     let parts = and_parts (files_apart a s == 1) (is_forward c 1 a s) h in
-    diagonal a s (files_apart a s) (ranks_apart a s) (λ e. omega arith)
+    on_diagonal a s (files_apart a s) (ranks_apart a s) (λ e. omega arith)
     (eqb-true (files_apart a s) 1 parts.0) (one_rank c a s parts.1)
 
 -- a man stands in reach of what it reaches

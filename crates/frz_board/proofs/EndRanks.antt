@@ -8,9 +8,9 @@ use Rattle.frz_board.specs.Shapes.{is_end, has_pawn, has_pawns_inside}
 use Rattle.frz_squares.proofs.Lemmas.{either_or, all_squares, not_all_squares}
 
 -- what a test of a rank forbids
-unless : (x y : Bool) → (x ≡ true → not y ≡ true) → not (x && y) ≡ true
-unless true y h = h refl
-unless false y h = refl
+not_both : (x y : Bool) → (x ≡ true → not y ≡ true) → not (x && y) ≡ true
+not_both true y h = h refl
+not_both false y h = refl
 
 end_cases : (s : ℕ) → s < 64 → is_end s ≡ true → (s < 8) ⊎ (56 ≤ s)
 end_cases s l h =
@@ -39,7 +39,7 @@ pub ends_free : (p : Board) → HasFreeEnds p 8 → true ≡ has_pawns_inside p
 unfolding has_pawns_inside
 ends_free p h =
     sym (all_squares (λ s. not (is_end s && has_pawn p s))
-    (λ s l. unless (is_end s) (has_pawn p s)
+    (λ s l. not_both (is_end s) (has_pawn p s)
     (λ e. elim (end_cases s l e) [
       | inl w ↦ not_false (has_pawn p s) (h s w).0
       | inr w ↦

@@ -23,14 +23,14 @@ beside_cases : (s b : ℕ) → s < 64 → b < 64 → ranks_apart s b ≡ 0 → f
     ((0 < file_of b) × (s ≡ b - 1)) ⊎ ((file_of b < 7) × (s ≡ b + 1))
 beside_cases s b l m h k = grind arith
 
-before : (b : ℕ) → b < 64 → 0 < file_of b → is_beside (b - 1) b ≡ true
-before b l h =
+left_is_beside : (b : ℕ) → b < 64 → 0 < file_of b → is_beside (b - 1) b ≡ true
+left_is_beside b l h =
     and_from (ranks_apart (b - 1) b == 0) (files_apart (b - 1) b == 1)
     (eq-eqb (ranks_apart (b - 1) b) 0 (omega arith))
     (eq-eqb (files_apart (b - 1) b) 1 (omega arith))
 
-after : (b : ℕ) → b < 64 → file_of b < 7 → is_beside (b + 1) b ≡ true
-after b l h =
+right_is_beside : (b : ℕ) → b < 64 → file_of b < 7 → is_beside (b + 1) b ≡ true
+right_is_beside b l h =
     and_from (ranks_apart (b + 1) b == 0) (files_apart (b + 1) b == 1)
     (eq-eqb (ranks_apart (b + 1) b) 0 (omega arith))
     (eq-eqb (files_apart (b + 1) b) 1 (omega arith))
@@ -57,13 +57,13 @@ to_any q b l h =
       | inl w ↦
           (let parts = and_parts (nat_lt 0 (file_of b)) (q (b - 1)) w in
           any_square (λ s. is_beside s b && q s) (b - 1) (omega arith)
-          (and_from (is_beside (b - 1) b) (q (b - 1)) (before b l (ltb-true 0 (file_of b) parts.0))
-          parts.1))
+          (and_from (is_beside (b - 1) b) (q (b - 1))
+          (left_is_beside b l (ltb-true 0 (file_of b) parts.0)) parts.1))
       | inr w ↦
           (let parts = and_parts (nat_lt (file_of b) 7) (q (b + 1)) w in
           let inside : file_of b < 7 = ltb-true (file_of b) 7 parts.0 in
           any_square (λ s. is_beside s b && q s) (b + 1) (omega arith)
-          (and_from (is_beside (b + 1) b) (q (b + 1)) (after b l inside) parts.1))
+          (and_from (is_beside (b + 1) b) (q (b + 1)) (right_is_beside b l inside) parts.1))
     ]
 
 beside_by_number : (p : Board) (c : Colour) (b : ℕ) → b < 64 →

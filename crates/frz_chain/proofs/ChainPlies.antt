@@ -1,30 +1,18 @@
 -- The plies of a chain.
-use Rattle.std.proofs.Common.{◌+◌, ℕ}
 use Rattle.frz_board.specs.Boards.{Board}
 use Rattle.frz_board.specs.declared.man.Colour.{Colour}
 use Rattle.frz_sets.specs.declared.exit.Value.{Value}
 use Rattle.frz_sets.specs.Views.{RuleLines}
 use Rattle.frz_exits.specs.Books.{value_by}
-use Rattle.frz_arena.specs.declared.bound.Bound.TheVariants.{Wins}
-use Rattle.frz_arena.specs.Chess.{ForcesMate}
-use Rattle.frz_arena.specs.Exits.{AllNumbered}
-use Rattle.frz_game.specs.Bounds.{IsBoundAt}
-use Rattle.frz_game.specs.Games.{chess, game_of}
-use Rattle.frz_game.specs.Values.{AreTrueExits}
 use Rattle.frz_chain.specs.Books.{Back, back_value, chain_value}
-use Rattle.frz_chain.specs.ChainPlies.{WinsWithinPlies, OwnWinsNumbered}
+use Rattle.frz_chain.specs.ChainPlies.{MatesOnBack}
 use Rattle.frz_chain.specs.FileOn.{IsExactBack}
 use Rattle.frz_chain.proofs.TablePlies.{Forced, back_forced, own_forced, win_forced}
 use Rattle.frz_chain.proofs.Told.{of_either}
 
 pub chain_within : (rules backs : RuleLines) (value : Board → Value) (back : Back)
-    → IsExactBack backs value back → AreTrueExits rules (value_by rules)
-    → AreTrueExits backs value → (side : Colour)
-    → OwnWinsNumbered rules (chain_value rules back) side
-    → AllNumbered (game_of backs value) side → (most : ℕ) → WinsWithinPlies back side most
-    → (n : ℕ) (p : Board) → IsBoundAt rules (chain_value rules back) side p (Wins n)
-    → ForcesMate chess side (n + most) p
-chain_within rules backs value back exact own others side own_numbered numbered most short n p b =
+    → IsExactBack backs value back → (side : Colour) → MatesOnBack rules backs value back side
+chain_within rules backs value back exact side own others own_numbered numbered most short n p b =
     win_forced rules (chain_value rules back) side most
     (λ q x. of_either (Forced side most q) (value_by rules q) (back_value back q)
     (own_forced rules (chain_value rules back) side own own_numbered most q x)

@@ -1,4 +1,5 @@
 -- The lemmas that the crates above cite.
+pub use Rattle.frz_chain.proofs.ChainPlies.{chain_within}
 pub use Rattle.frz_chain.proofs.Chained.{file_on_there}
 pub use Rattle.frz_chain.proofs.DecidedBacks.{back_decides, chain_decided, first_decides}
 pub use Rattle.frz_chain.proofs.ExactBacks.{all_if_exact, judged_exact}

@@ -14,10 +14,10 @@ use Rattle.frz_chain.specs.ChainPlies.{back_codes}
 use Rattle.frz_chain.specs.PairValues.{pair_value}
 
 -- the value of a test, or the rest
-either : (P : Value → Type 0) (v rest : Value) (test : Bool) → (test ≡ true → P v) → P rest
+either_holds : (P : Value → Type 0) (v rest : Value) (test : Bool) → (test ≡ true → P v) → P rest
     → P (if test then v else rest)
-either P v rest true h k = h refl
-either P v rest false h k = k
+either_holds P v rest true h k = h refl
+either_holds P v rest false h k = k
 
 pub of_pairs : (P : Value → Type 0) (white black : ℕ)
     → (is_win white ≡ true → P WhiteWins) → (is_win black ≡ true → P BlackWins)
@@ -29,16 +29,16 @@ of_pairs P white black white_wins black_wins draw white_holds black_holds unknow
     let fourth : Value = if (white == 1) && is_failure black then WhiteHolds else fifth in
     let third : Value = if (white == 1) && (black == 1) then Draw else fourth in
     let second : Value = if is_failure white && is_win black then BlackWins else third in
-    either P WhiteWins second (is_win white && is_failure black)
+    either_holds P WhiteWins second (is_win white && is_failure black)
     (λ e. white_wins (and_parts (is_win white) (is_failure black) e).0)
-    (either P BlackWins third (is_failure white && is_win black)
+    (either_holds P BlackWins third (is_failure white && is_win black)
     (λ e. black_wins (and_parts (is_failure white) (is_win black) e).1)
-    (either P Draw fourth ((white == 1) && (black == 1))
+    (either_holds P Draw fourth ((white == 1) && (black == 1))
     (λ e. draw (eqb-true white 1 (and_parts (white == 1) (black == 1) e).0)
     (eqb-true black 1 (and_parts (white == 1) (black == 1) e).1))
-    (either P WhiteHolds fifth ((white == 1) && is_failure black)
+    (either_holds P WhiteHolds fifth ((white == 1) && is_failure black)
     (λ e. white_holds (eqb-true white 1 (and_parts (white == 1) (is_failure black) e).0))
-    (either P BlackHolds Unknown (is_failure white && (black == 1))
+    (either_holds P BlackHolds Unknown (is_failure white && (black == 1))
     (λ e. black_holds (eqb-true black 1 (and_parts (is_failure white) (black == 1) e).1))
     unknown))))
 

@@ -1,4 +1,4 @@
--- The codes of a chained table say of chess what they say of the restricted game.
+-- What the codes of a chained table say of chess, where the exit lines of both texts are true.
 use Rattle.std.proofs.Common.{ℕ, List}
 use Rattle.frz_board.specs.Boards.{Board}
 use Rattle.frz_board.specs.declared.man.Colour.{Colour}
@@ -13,7 +13,8 @@ use Rattle.frz_chain.specs.FileOn.{IsExactBack}
 use Rattle.frz_chain.specs.Transfer.{TellsChess}
 use Rattle.frz_chain.proofs.TrueValues.{chained_true}
 
--- where the values of the exits are true, codes tell of chess what they tell of the game
+-- where the values of the exits are true, codes tell of chess what TellsChess states of wins and
+-- holds
 pub true_tells : (rules : RuleLines) (value : Board → Value) → AreTrueExits rules value
     → (side : Colour) (codes : List ℕ) → IsTableOf rules value side codes
     → TellsChess rules value side codes

@@ -14,7 +14,7 @@ ghost use Rattle.frz_game.specs.Games.{chess, game_of};
 ghost use Rattle.frz_game.specs.ExactTables.{HasExactOutcomes, AreDecidedOutside};
 ghost use Rattle.frz_board.specs.declared.man.Colour.TheVariants.{White, Black};
 ghost use Rattle.frz_chain.specs.DecidedBacks.{AreLinesOrBehind};
-ghost use Rattle.frz_chain.specs.ChainPlies.{WinsWithinPlies, OwnWinsNumbered};
+ghost use Rattle.frz_chain.specs.ChainPlies.{MatesOnBack};
 ghost use Rattle.frz_game.specs.Values.{AreTrueExits, IsTrueValue};
 ghost use Rattle.frz_game.specs.declared.wrong.Wrong.{Wrong};
 ghost use Rattle.frz_table.specs.declared.fault.TableFault.{TableFault};
@@ -44,7 +44,7 @@ pub fn chained_exits_true()
 {}
 
 /// If the exit lines of the rules and those of the text of the back table are true, the codes of a
-/// table over the back table say of chess what they say of the restricted game.
+/// table over the back table say of chess what `TellsChess` states of wins and holds.
 pub fn chained_tables_tell()
     ensures { (rules backs : RuleLines) (back : Back) → IsExactBack backs (value_by backs) back →
         AreTrueExits rules (value_by rules) → AreTrueExits backs (value_by backs) →
@@ -68,12 +68,8 @@ pub fn exact_by_verdict()
 /// side wins by exit lines must have a number of plies.
 pub fn plies_over_a_chain()
     ensures { (rules backs : RuleLines) (value : Board → Value) (back : Back) →
-        IsExactBack backs value back → AreTrueExits rules (value_by rules) →
-        AreTrueExits backs value → (side : Colour) →
-        OwnWinsNumbered rules (chain_value rules back) side →
-        AllNumbered (game_of backs value) side → (most : ℕ) → WinsWithinPlies back side most →
-        (n : ℕ) (p : Board) → IsBoundAt rules (chain_value rules back) side p (Wins n) →
-        ForcesMate chess side (n + most) p }
+        IsExactBack backs value back → (side : Colour) →
+        MatesOnBack rules backs value back side }
 {}
 
 /// If the outcomes of the back table are those of chess, and each exit is decided by an exit line

@@ -23,8 +23,8 @@ use Rattle.frz_check.specs.Verdicts.{IsVerdict}
 abbrev pub kept_codes : Contents → List ℕ → Colour → List ℕ
 kept_codes contents bytes side = codes_at side contents.text (size_of contents.rules.groups) bytes
 
--- the verdict on bytes that open with these contents, by the values of a book; it is exact just if
--- they are, byte by byte, the one file of their text
+-- the verdict on bytes that open with these contents, by the values of a book; it is `Exact`
+-- exactly if they are, byte by byte, the one file of their text
 pub record IsVerdictOn (kind : FileKind) (value : Board → Value) (contents : Contents)
     (bytes : List ℕ) (verdict : Verdict) : Type 0 where
   pub codes : IsVerdict contents.rules value (kept_codes contents bytes) verdict

@@ -16,7 +16,9 @@ abbrev pub KeepsTables : (Board → Value) → Contents → List ℕ → Type 0
 KeepsTables value contents bytes =
     (side : Colour) → IsTableOf contents.rules value side (kept_codes contents bytes side)
 
--- the code stands for the bound of the side at the position, and the bound holds in chess
+-- the code stands for the bound of the side at the position, and the bound says of chess what Means
+-- states: under the premise that the exits are true, with a win the side forces mate, and with a
+-- win or a hold the opponent forces none
 pub record KeepsBound (rules : RuleLines) (value : Board → Value) (side : Colour) (p : Board)
     (code : ℕ) : Type 0 where
   pub bound : Bound

@@ -22,6 +22,7 @@ use std::sync::ledger::Ledger;
 
 /// Compares the entry of the side at the number with its local code. The node says what the number
 /// is, and the list has its moves. Answers both codes if they differ, else `None`.
+#[inline(always)]
 fn compare<E: Entries>(
     side: Colour,
     number: u32,
@@ -96,7 +97,7 @@ fn check_numbers<G: NumberedGame<L>, E: Entries, L: Ledger>(
 }
 
 /// Checks the codes of both sides, one a side for each number of the set: the verdict is `Exact`
-/// just if they are the tables of the game. The moves of each number are listed once, up to the
+/// exactly if they are the tables of the game. The moves of each number are listed once, up to the
 /// first wrong entry, so the steps are at most the size. No memory is taken.
 pub fn check_entries<B: ExitBook, E: Entries, L: Ledger>(
     game: &Game<'_, B>,

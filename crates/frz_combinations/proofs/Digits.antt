@@ -9,8 +9,8 @@ pos_from_product : (b p n : ℕ) → n < b * p → 0 < p
 pos_from_product b zero n h = absurd (omega (arith, mul-zero b))
 pos_from_product b (suc p) n h = omega arith
 
-spread : (n b d p v : ℕ) → (n * b + d) * p + v ≡ n * (b * p) + (d * p + v)
-spread n b d p v = omega (arith, add-mul (n * b) d p, mul_assoc n b p)
+digit_in_product : (n b d p v : ℕ) → (n * b + d) * p + v ≡ n * (b * p) + (d * p + v)
+digit_in_product n b d p v = omega (arith, add-mul (n * b) d p, mul_assoc n b p)
 
 pub value_below : (bs ds : List ℕ) → AreDigits bs ds → value bs ds < product bs
 value_below [] ds h = omega arith
@@ -53,7 +53,7 @@ pub value_onto-value : (n : ℕ) (bs ds : List ℕ) → AreDigits bs ds →
 value_onto-value n [] ds h = omega arith
 value_onto-value n (b ∷ bs) [] h = absurd h
 value_onto-value n (b ∷ bs) (d ∷ ds) h =
-    value_onto-value (n * b + d) bs ds h.1 ∙ spread n b d (product bs) (value bs ds)
+    value_onto-value (n * b + d) bs ds h.1 ∙ digit_in_product n b d (product bs) (value bs ds)
 
 -- digits behind digits: the number of the first ones is where the others begin
 pub value_onto-append : (n : ℕ) (rs bs xs ys : List ℕ) → length rs ≡ length xs →

@@ -24,7 +24,7 @@ use Rattle.frz_prelude.specs.Causes.{rules_line}
 use Rattle.frz_commands_ask.specs.Meaning.{TellsBounds, MeansStatus, MeansSolve}
 use Rattle.frz_commands_ask.specs.Solving.{Solves, AreBounds, IsSolvedBy, IsSolvedIn, IsSolvedAt}
 
--- the bounds of a position of the set hold in chess
+-- the bounds of a position of the set say of chess what Means states
 pub tells_bounds : (r : RuleLines) (value : Board → Value) (p : Board) (white black : Bound)
     → Member r.groups p → Solves r value p white black
     → TellsBounds r value p (bounds_text white black)

@@ -27,7 +27,8 @@ use Rattle.frz_prelude.specs.BoundLines.{bounds_text}
 use Rattle.frz_commands_ask.specs.Solving.{Solves, IsSolvedAt}
 
 -- the text tells the bounds of both sides at a position of the rules' set, in the game of the rules
--- with these values of exits, and the bounds hold in chess
+-- with these values of exits, and the bounds say of chess what Means states, under the premise that
+-- the exits are true
 pub record TellsBounds (lines : RuleLines) (value : Board → Value) (p : Board)
     (text : List ℕ) : Type 0 where
   pub white : Bound

@@ -23,9 +23,9 @@ use Rattle.frz_commands_ask.specs.Kept.{keeping_bytes, keeping_calls, kept_at, k
 use Rattle.frz_commands_ask.specs.Meaning.{TellsBounds}
 
 -- where the codes in the file are the tables of both sides by the values of some book, the text
--- tells the bounds of both sides by these values, and they hold in chess. The book is that of the
--- exit lines or, for a table over a second one, that of the exit lines with the second table behind
--- them
+-- tells the bounds of both sides by these values, and they say of chess what Means states, under
+-- the premise that the exits are true. The book is that of the exit lines or, for a table over a
+-- second one, that of the exit lines with the second table behind them
 abbrev pub TellsWhereExact : Contents → List ℕ → Board → List ℕ → Type 0
 TellsWhereExact contents bytes p text = (value : Board → Value)
     → KeepsTables value contents bytes → TellsBounds contents.rules value p text

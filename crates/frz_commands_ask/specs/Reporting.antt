@@ -38,7 +38,8 @@ report_at table files =
     report_by (opened (table_format Plain) (files table)) (bytes_at files table) files
 
 -- the text is the report of the file. Where the codes in it are the tables of both sides, each code
--- that the report uses is that of the bound at its position, and holds in chess
+-- that the report uses is that of the bound at its position, which says of chess what Means states,
+-- under the premise that the exits are true
 pub record TellsReport (table : List ℕ) (files : Files) (text : List ℕ) : Type 0 where
   pub bytes : List ℕ
   pub contents : Contents

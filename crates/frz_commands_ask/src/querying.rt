@@ -12,7 +12,7 @@ use frz_store::Store;
 use frz_table::FileKind;
 use std::alloc::Global;
 
-/// Queries a table file of this kind; `words` are the two words behind the command's name, TABLE
+/// Queries a table file of this kind; `words` are the two words after the command's name, TABLE
 /// FEN.
 pub fn query_kind<S: Store>(
     alloc: Global,

@@ -22,7 +22,7 @@ use Rattle.frz_check.proofs.Lemmas.{one_file_holds, one_file_opens, tables_are_o
 use Rattle.frz_chain.specs.Books.{Back}
 use Rattle.frz_backs.specs.Links.{AreExact, Link, backs_of}
 use Rattle.frz_backs.specs.Values.{atlas_value}
-use Rattle.frz_backs.proofs.Lemmas.{atlas_small, exits_over_true, tables_decide}
+use Rattle.frz_backs.proofs.Lemmas.{atlas_small, exits_over_true, mates_within, tables_decide}
 use Rattle.frz_answer.specs.declared.status.Status.{Status}
 use Rattle.frz_answer.specs.declared.status.Status.TheVariants as statuses
 use Rattle.frz_answer.specs.Answers.{Answer, says}
@@ -111,6 +111,8 @@ module _ (table : List ℕ) (behind : List (List ℕ)) (files : Files) (are : Ho
           black_means =
               table_means rules value Black (kept_codes h.contents h.bytes Black) (codes Black);
           true_exits = λ own lines. exits_over_true rules links links_exact lines own;
+          white_mates = mates_within rules links links_exact White;
+          black_mates = mates_within rules links links_exact Black;
           white_exact =
               table_exactly rules value White (kept_codes h.contents h.bytes White) (codes White);
           black_exact =

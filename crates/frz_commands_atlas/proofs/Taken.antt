@@ -3,7 +3,14 @@ use Rattle.std.proofs.Common.{◌≡◌, refl, ap, ◌∙◌, ℕ, ◌≤◌, Li
 use Rattle.std.specs.Prelude.{if◌then◌else◌}
 use Rattle.std.specs.Option.{option_map, unwrap_or}
 use Rattle.std.proofs.lemmas.Bool.{ltb-false}
-use Rattle.frz_commands_atlas.specs.Names.{build_names_of, table_names_of}
+use Rattle.frz_answer.specs.declared.end.End.{End}
+use Rattle.frz_answer.specs.declared.words.Refusal.{Refusal}
+use Rattle.frz_answer.specs.declared.words.Refusal.TheVariants.{Count, NoCommand, SameName}
+use Rattle.frz_answer.specs.Ends.{Ran}
+use Rattle.frz_answer.specs.Jobs.{Job}
+use Rattle.frz_answer.specs.Words.{refusing, taking, unless}
+use Rattle.frz_answer.specs.World.{World}
+use Rattle.frz_commands_atlas.specs.Names.{AreDifferent, DoNotName, build_names_of, has_twice, not_so_many, same, table_names_of}
 use Rattle.frz_commands_atlas.specs.declared.names.TheConstants.{MOST_BACKS}
 
 -- the words are a table's name and these, of which there are not too many
@@ -55,3 +62,19 @@ pub as_all_named : (words : List (List ℕ)) (file table : List ℕ) (behind : L
 as_all_named [] file table behind e = cc
 as_all_named (rules ∷ words) file table behind e =
     with_rules rules words (table_names_of words) refl file table behind e
+
+-- the job of the names that words give, which are refused where one stands twice
+abbrev pub by_words : (List ℕ × List (List ℕ) → Job) → List (List ℕ) → Job
+by_words job words = taking (λ names. unless (has_twice words) (job names)) (table_names_of words)
+
+module _ (job : List ℕ × List (List ℕ) → Job) (words : List (List ℕ)) (end : End)
+    (old new : World) where
+  pub ran_named : (table : List ℕ) (behind : List (List ℕ)) → AreDifferent words table behind
+      → Ran (job (table, behind)) end old new → Ran (by_words job words) end old new
+  ran_named table behind are ran = rw (are.named, are.apart) ran
+
+  pub ran_refused : (why : Refusal) → DoNotName words why → Ran (refusing why) end old new
+      → Ran (by_words job words) end old new
+  ran_refused NoCommand never ran = elim never [ ]
+  ran_refused Count (not_so_many none) ran = rw none ran
+  ran_refused SameName (same names some twice) ran = rw (some, twice) ran

@@ -15,6 +15,7 @@ use Rattle.frz_table.specs.declared.kind.FileKind.TheVariants.{Atlas}
 use Rattle.frz_table.specs.Layout.{codes_at, magic_of}
 use Rattle.frz_table.specs.Tables.{IsTableFile}
 use Rattle.frz_backs.specs.Decided.{AreLinesOrTables, HasBothOutcomes}
+use Rattle.frz_backs.specs.LinkPlies.{MatesOver}
 use Rattle.frz_backs.specs.Links.{AreExact, AreTrueLines, Link, backs_of}
 use Rattle.frz_backs.specs.Values.{atlas_value}
 use Rattle.frz_atlas.specs.Behind.{AreJudged, TableBytes, link_of}
@@ -46,13 +47,19 @@ pub record AtlasHeadline (table : List ℕ) (behind : List (List ℕ)) (files : 
   pub white_table : IsTableOf rules (atlas_value rules (backs_of links)) White white
   pub black_table : IsTableOf rules (atlas_value rules (backs_of links)) Black black
   pub one_file : IsFileOver text rules (backs_of links) bytes
-  -- a win forces mate or an exit that is won, within its plies. Where the exits are true it forces
-  -- mate, and with a win or a hold the opponent cannot force mate
+  -- a win forces mate, or a position outside the set whose value is a win, within its plies and
+  -- against every legal reply. That position may lie beyond an exit of another value, as an unknown
+  -- one. Where the exits are true the win forces mate, and with a win or a hold the opponent cannot
+  -- force mate
   pub white_means : TableMeans rules (atlas_value rules (backs_of links)) White white
   pub black_means : TableMeans rules (atlas_value rules (backs_of links)) Black black
   -- the exits of TABLE are true where the exit lines of all texts are true
   pub true_exits : AreTrueExits rules (value_by rules) → AreTrueLines links
       → AreTrueExits rules (atlas_value rules (backs_of links))
+  -- where the exit lines of all texts are true, and give the plies of the side's wins, a win within
+  -- n forces mate within n plies and those of the longest win behind it, as MatesOver says
+  pub white_mates : MatesOver rules links White
+  pub black_mates : MatesOver rules links Black
   -- where no line of TABLE forbids a side a move, its codes there are exact in chess as
   -- TableMeansExactly says
   pub white_exact :

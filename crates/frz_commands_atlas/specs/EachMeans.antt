@@ -26,7 +26,8 @@ use Rattle.frz_commands_atlas.specs.MoveRows.{rows_in}
 use Rattle.frz_commands_atlas.specs.Ranked.{IsRanked, rank_for}
 use Rattle.frz_commands_atlas.specs.RowLines.{both_words, each_text}
 
--- the row's words are those of the bounds of both sides after the move, and the bounds hold in chess
+-- the row's words are those of the bounds of both sides after the move, and the bounds say of chess
+-- what Means states, under the premise that the exits are true
 pub record TellsBoundsAfter (rules : RuleLines) (value : Board → Value) (p : Board)
     (row : Row) : Type 0 where
   pub inside : Member rules.groups (after p row.arm.mv)
@@ -36,7 +37,7 @@ pub record TellsBoundsAfter (rules : RuleLines) (value : Board → Value) (p : B
       ≡ (side_name White ++ bound_text white.bound)
       ++ (codes ", " ++ (side_name Black ++ bound_text black.bound))
 
--- a move that stays in the set tells bounds; an exit tells its value
+-- a move that stays in the set tells bounds; of an exit nothing is said here
 abbrev pub TellsBehind : RuleLines → (Board → Value) → Board → Row → Type 0
 TellsBehind rules value p row =
     (number : ℕ) → row.arm.next ≡ Inside number → TellsBoundsAfter rules value p row

@@ -61,10 +61,10 @@ report_at table behind files =
     report_by (opened (table_format Atlas) (files table)) (bytes_at files table)
     (opened_all (map files behind)) files
 
--- the text is the report of TABLE over the BACKs. Where the codes in TABLE are its tables over them,
--- each code that the report uses is that of the bound at its position, and holds in chess. Where the
--- BACKs are exact, each over those before it, and the exit lines of all texts are true in chess, so
--- are the values of the exits
+-- the text is the report of TABLE over the BACKs. Where the codes in TABLE are its tables over
+-- them, each code that the report uses is that of the bound at its position, which says of chess
+-- what Means states, under the premise that the exits are true. They are true where the BACKs are
+-- exact, each over those before it, and the exit lines of all texts are true
 pub record TellsReport (table : List ℕ) (behind : List (List ℕ)) (files : Files)
     (text : List ℕ) : Type 0 where
   pub bytes : List ℕ

@@ -10,9 +10,9 @@ ghost use Rattle.frz_commands_atlas.specs.Names.{has_twice as is_twice};
 ghost use Rattle.frz_commands_atlas.specs.declared.names.TheConstants.{MOST_BACKS};
 
 use crate::ending::end_at;
-use crate::names::{has_twice, table_names};
+use crate::names::different_names;
 use crate::verdict_lines::{status_of, write_verdict};
-use frz_answer::{End, Refusal, refuse, said};
+use frz_answer::{End, refuse, said};
 use frz_atlas::check_atlas;
 use frz_steps::Steps;
 use frz_store::{Sink, Store};
@@ -59,13 +59,8 @@ pub fn run_check<S: Store, O: Sink, L: Ledger>(
     ensures store_unused { (check_words (map string_bytes words.now)).needs.store ≡ false
         → store.new ≡ store.old }
 {
-    match table_names(words) {
-        Some((table, behind)) => {
-            if has_twice(words) {
-                return refuse(Refusal::SameName, out);
-            }
-            check_named(alloc, table, behind, store, out, steps)
-        }
-        None => refuse(Refusal::Count, out),
+    match different_names(words) {
+        Ok((table, behind)) => check_named(alloc, table, behind, store, out, steps),
+        Err(why) => refuse(why, out),
     }
 }

@@ -1,11 +1,14 @@
-//! The names that the words of `build` and `check` give.
-ghost use Rattle.std.specs.Prelude.{◌≡◌, map};
+//! The names that the words of `build`, `check` and `report` give.
+ghost use Rattle.std.specs.Prelude.{◌≡◌, map, IfOk, IfErr};
 ghost use Rattle.std.specs.List.{list_any};
 ghost use Rattle.std.specs.Option.{option_map};
 ghost use Rattle.std.specs.Str.{bytes_eq};
 ghost use Rattle.std.specs.String.{string_bytes};
 ghost use Rattle.frz_commands_atlas.specs.Names as names;
+ghost use Rattle.frz_commands_atlas.specs.Names.{AreDifferent, DoNotName};
 ghost use Rattle.frz_commands_atlas.specs.Names.{table_names_of, build_names_of};
+
+use frz_answer::Refusal;
 
 /// The most tables that may stand behind a table.
 pub const MOST_BACKS: usize = 16;
@@ -55,5 +58,19 @@ pub fn has_twice(words: &[String]) -> bool
     match words {
         [] => false,
         [first, rest @ ..] => is_among(first.as_str(), rest) || has_twice(rest),
+    }
+}
+
+/// The table's name and the 1 to 16 names of the tables behind it, no two of which are the same; or
+/// why the words are refused.
+pub fn different_names(words: &[String]) -> Result<(&str, &[String]), Refusal>
+    ensures named { IfOk result (λ all.
+        AreDifferent (map string_bytes words.now) all.0.now (map string_bytes all.1.now)) }
+    ensures refused { IfErr result (DoNotName (map string_bytes words.now)) }
+{
+    match table_names(words) {
+        None => Err(Refusal::Count),
+        Some(_) if has_twice(words) => Err(Refusal::SameName),
+        Some(names) => Ok(names),
     }
 }

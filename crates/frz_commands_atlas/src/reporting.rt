@@ -15,8 +15,8 @@ ghost use Rattle.frz_commands_atlas.specs.Reporting.{reporting_at, report_words}
 ghost use Rattle.frz_commands_atlas.specs.declared.names.TheConstants.{MOST_BACKS};
 
 use crate::ending::end_at;
-use crate::names::{has_twice, table_names};
-use frz_answer::{End, Refusal, refuse};
+use crate::names::different_names;
+use frz_answer::{End, refuse};
 use frz_atlas::{LoadedAtlas, load_atlas};
 use frz_backs::AtlasBook;
 use frz_game::{Game, Pair};
@@ -92,13 +92,8 @@ pub fn run_report<S: Store, O: Sink, L: Ledger>(
     ensures store_unused { (report_words (map string_bytes words.now)).needs.store ≡ false
         → store.new ≡ store.old }
 {
-    match table_names(words) {
-        Some((table, behind)) => {
-            if has_twice(words) {
-                return refuse(Refusal::SameName, out);
-            }
-            report_named(alloc, table, behind, store, out, steps)
-        }
-        None => refuse(Refusal::Count, out),
+    match different_names(words) {
+        Ok((table, behind)) => report_named(alloc, table, behind, store, out, steps),
+        Err(why) => refuse(why, out),
     }
 }

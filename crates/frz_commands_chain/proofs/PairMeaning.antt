@@ -19,7 +19,7 @@ use Rattle.frz_check.specs.Kept.{kept_codes}
 use Rattle.frz_check.proofs.Lemmas.{file_tables, one_file_holds, one_file_opens, tables_are_one}
 use Rattle.frz_chain.specs.Books.{Back, chain_value}
 use Rattle.frz_chain.specs.FileOn.{IsExactBack, IsFileOn, back_of}
-use Rattle.frz_chain.proofs.Lemmas.{chain_small, chained_true, chain_decided}
+use Rattle.frz_chain.proofs.Lemmas.{chain_small, chain_within, chained_true, chain_decided}
 use Rattle.frz_answer.specs.declared.status.Status.{Status}
 use Rattle.frz_answer.specs.declared.status.Status.TheVariants as statuses
 use Rattle.frz_answer.specs.Answers.{Answer, says}
@@ -110,6 +110,10 @@ module _ (table back : List ℕ) (files : Files) (are : HoldsBytes files) where
             table_means rules value Black (kept_codes h.contents h.bytes Black) (h.judged Black);
         true_exits = λ own others. chained_true rules k.contents.rules (value_by k.contents.rules)
             h.behind exact own others;
+        white_mates = chain_within rules k.contents.rules (value_by k.contents.rules) h.behind exact
+            White;
+        black_mates = chain_within rules k.contents.rules (value_by k.contents.rules) h.behind exact
+            Black;
         back_white_exact =
             table_exactly k.contents.rules (value_by k.contents.rules) White h.behind.white
             exact.white;

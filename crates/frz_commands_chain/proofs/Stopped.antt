@@ -1,4 +1,4 @@
--- What a fault of a chain stops: with its cause, and with which status.
+-- How a fault of a chain stops a command: with its cause, and with which status.
 use Rattle.std.proofs.Common.{subst, ℕ, Err}
 use Rattle.frz_store.specs.Outside.{Rose}
 use Rattle.frz_store.specs.Told.{StoreTold, StoreFine}

@@ -16,6 +16,7 @@ use Rattle.frz_table.specs.Layout.{codes_at, magic_of}
 use Rattle.frz_table.specs.Tables.{IsTableFile}
 use Rattle.frz_check.specs.OneFile.{IsOneFile}
 use Rattle.frz_chain.specs.Books.{Back, back_with, chain_value}
+use Rattle.frz_chain.specs.ChainPlies.{MatesOnBack}
 use Rattle.frz_chain.specs.DecidedBacks.{AreLinesOrBehind}
 use Rattle.frz_chain.specs.FileOn.{IsExactBack, IsFileOn}
 
@@ -50,14 +51,20 @@ pub record ChainHeadline (table back : List ℕ) (files : Files) : Type 0 where
   pub white_table : IsTableOf rules (chain_value rules behind) White white
   pub black_table : IsTableOf rules (chain_value rules behind) Black black
   pub one_file : IsFileOn text rules behind bytes
-  -- a win forces mate or an exit that is won, within its plies. Where the exits are true it forces
-  -- mate, and with a win or a hold the opponent cannot force mate
+  -- a win forces mate, or a position outside the set whose value is a win, within its plies and
+  -- against every legal reply. That position may lie beyond an exit of another value, as an unknown
+  -- one. Where the exits are true the win forces mate, and with a win or a hold the opponent cannot
+  -- force mate
   pub white_means : TableMeans rules (chain_value rules behind) White white
   pub black_means : TableMeans rules (chain_value rules behind) Black black
   -- the exits of TABLE are true where the exit lines of both texts are true
   pub true_exits : AreTrueExits rules (value_by rules)
       → AreTrueExits back_rules (value_by back_rules)
       → AreTrueExits rules (chain_value rules behind)
+  -- where the exits of both are true, and their lines give the plies of the side's wins, a win
+  -- within n forces mate within n plies and those of the longest win in BACK, as MatesOnBack says
+  pub white_mates : MatesOnBack rules back_rules (value_by back_rules) behind White
+  pub black_mates : MatesOnBack rules back_rules (value_by back_rules) behind Black
   -- where no line of BACK forbids a side a move, its codes in BACK are exact in chess as
   -- TableMeansExactly says; and so are those in TABLE, with BACK behind its exit lines
   pub back_white_exact : TableIsExactWhereFree back_rules (value_by back_rules) White behind.white

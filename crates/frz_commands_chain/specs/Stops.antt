@@ -1,4 +1,4 @@
--- What a fault of a chain stops.
+-- How a fault of a chain stops a command: a refusal, or a fault of the store or of memory.
 use Rattle.frz_answer.specs.declared.fault.Fault.TheVariants as faults
 use Rattle.frz_chain.specs.declared.fault.ChainFault.{ChainFault}
 use Rattle.frz_chain.specs.declared.fault.ChainFault.TheVariants as chain

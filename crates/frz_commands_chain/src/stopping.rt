@@ -6,6 +6,7 @@ use frz_answer::Fault;
 use frz_chain::ChainFault;
 use frz_prelude::{Refused, Stop};
 
+/// How a fault of a chain stops the command: a refusal, or a fault of the store or of memory.
 pub fn stop_of(fault: ChainFault) -> Stop
     ensures { result ≡ stop_of_chain fault }
 {

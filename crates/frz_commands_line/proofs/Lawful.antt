@@ -34,7 +34,7 @@ use Rattle.frz_commands_line.specs.Lining.{lining_at, line_words}
 use Rattle.frz_commands_line.specs.Sides.{side_of, side_line, on_side}
 use Rattle.frz_commands_line.proofs.LineMeans.{LineLaws, line_means}
 use Rattle.frz_commands_line.proofs.LineOpened.{some_at}
-use Rattle.frz_commands_line.proofs.Seen.{LineThere}
+use Rattle.frz_commands_line.proofs.KnownLine.{LineThere}
 
 -- that there is no other line
 abbrev pub LineAlone : Type 0

@@ -8,8 +8,8 @@ mod Meaning
 mod OpeningCosts
 mod OutsideSet
 mod Opened
-mod Played
-mod Seen
+mod LineEndsWell
+mod KnownLine
 mod SessionLawful
 mod SessionMeans
 mod SessionOpened

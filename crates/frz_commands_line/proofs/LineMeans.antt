@@ -25,7 +25,7 @@ use Rattle.frz_answer.specs.Answers.{Answer, says}
 use Rattle.frz_prelude.specs.TableFiles.{OpensAs}
 use Rattle.frz_ways.specs.declared.end.LineEnd.{LineEnd}
 use Rattle.frz_ways.specs.declared.end.LineEnd.TheVariants as ends
-use Rattle.frz_ways.specs.declared.end.TheConstants.{MOST_PLIES}
+use Rattle.frz_ways.specs.declared.end.TheConstants.{LINE_LIMIT}
 use Rattle.frz_ways.specs.ChessGames.{IsGame}
 use Rattle.frz_ways.specs.Ends.{told}
 use Rattle.frz_ways.specs.Lines.{LinePly, EndOfLine, IsLine}
@@ -66,12 +66,12 @@ pub record LineLaws : Type 0 where
       (start : ℕ)
       (plies : List LinePly) (end : EndOfLine)
       → slice_index (codes 0) start ≡ 1 → IsLine rules value side codes start plies end
-      → length plies ≤ MOST_PLIES
+      → length plies ≤ LINE_LIMIT
   pub cut : (rules : RuleLines) (value : Board → Value) (side : Colour) (codes : ℕ → List ℕ)
       (start : ℕ)
       (plies : List LinePly)
       → slice_index (codes 0) start ≡ 1 → IsLine rules value side codes start plies Cut
-      → length plies ≡ MOST_PLIES
+      → length plies ≡ LINE_LIMIT
   pub right : (rules : RuleLines) (value : Board → Value) (side : Colour) (codes : ℕ → List ℕ)
       → ((k : ℕ) → IsTableOf rules value side (codes k))
       → (p : Board) → Member rules.groups p → (plies : List LinePly) (at : ℕ × ℕ) (kept given : ℕ)

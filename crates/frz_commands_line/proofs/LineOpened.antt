@@ -18,7 +18,7 @@ use Rattle.frz_commands_line.specs.Later.{held_later}
 use Rattle.frz_commands_line.specs.LineOf.{code_at, codes_later, line_answer, LineComes, IsLined, IsLinedIn, IsLinedBy, IsLinedAt}
 use Rattle.frz_commands_line.proofs.Counting.{told_said}
 use Rattle.frz_prelude.proofs.Lemmas.{some_refusal}
-use Rattle.frz_commands_line.proofs.Seen.{LineThere}
+use Rattle.frz_commands_line.proofs.KnownLine.{LineThere}
 
 abbrev pub lined_by : Colour → Board → (later : ℕ → Files) (name : List ℕ)
     → Result Contents TableFault → Files → List ℕ → Answer → Type 0

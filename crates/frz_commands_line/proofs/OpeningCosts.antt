@@ -17,7 +17,7 @@ use Rattle.frz_answer.specs.World.{Spent}
 use Rattle.frz_answer.specs.Jobs.{WithinCosts}
 use Rattle.frz_ways.specs.Costs.{SpendsAt}
 use Rattle.frz_commands_line.specs.Costs.{opening_costs, playing_costs, CostsIn, CostsBy, CostsAt}
-use Rattle.frz_commands_line.proofs.Seen.{not_member}
+use Rattle.frz_commands_line.proofs.KnownLine.{not_member}
 
 module _ (contents : Contents) (p : Board) (comes : List ℕ → Type 0) where
   -- by whether the position is in the set

@@ -41,7 +41,7 @@ use Rattle.frz_ways.specs.Reading.{opened}
 use Rattle.frz_commands_line.proofs.Behind.{cut_within}
 use Rattle.frz_commands_line.proofs.OpeningCosts.{costs_inside, costs_nothing}
 use Rattle.frz_commands_line.proofs.OutsideSet.{outside_ran}
-use Rattle.frz_commands_line.proofs.Seen.{by_member}
+use Rattle.frz_commands_line.proofs.KnownLine.{by_member}
 use Rattle.frz_commands_line.proofs.SessionSeen.{SessionThere, SessionSo, played_inside, played_outside, session_so}
 use Rattle.frz_commands_line.proofs.SessionTexts.{Answered, answered_at, never_cut}
 use Rattle.frz_commands_line.proofs.Taken.{rest_after, Split, found_in, after_lines, rest_left}

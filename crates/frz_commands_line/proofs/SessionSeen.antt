@@ -29,7 +29,7 @@ use Rattle.frz_ways.specs.Reading.{Input}
 use Rattle.frz_ways.specs.Sessions.{SessionPly, EndOfSession, IsSession}
 use Rattle.frz_commands_line.specs.LineOf.{code_at, codes_later}
 use Rattle.frz_commands_line.specs.SessionOf.{IsSessionBy, SessionComes, IsPlayed, IsPlayedIn}
-use Rattle.frz_commands_line.proofs.Seen.{not_member}
+use Rattle.frz_commands_line.proofs.KnownLine.{not_member}
 
 -- that there is a session from each number against each input
 abbrev pub SessionThere : Type 0

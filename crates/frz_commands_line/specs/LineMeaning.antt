@@ -21,7 +21,7 @@ use Rattle.frz_answer.specs.declared.status.Status.TheVariants.{Success, Wrong, 
 use Rattle.frz_answer.specs.Answers.{Answer}
 use Rattle.frz_prelude.specs.TableFiles.{OpensAs, TellsTableFault}
 use Rattle.frz_ways.specs.declared.end.LineEnd.{LineEnd}
-use Rattle.frz_ways.specs.declared.end.TheConstants.{MOST_PLIES}
+use Rattle.frz_ways.specs.declared.end.TheConstants.{LINE_LIMIT}
 use Rattle.frz_ways.specs.ChessGames.{IsGame}
 use Rattle.frz_ways.specs.Ends as line_ends
 use Rattle.frz_ways.specs.Lines.{LinePly, EndOfLine}
@@ -30,7 +30,7 @@ use Rattle.frz_commands_line.specs.LineOf.{code_at, IsLineBy, told_text}
 
 -- what a line from a win within n plies does: it has at most n plies. The opponent is mated after n
 -- plies, or an exit wins for the side after n plies with its lag (the plies to mate that its value
--- gives) counted
+-- gives) counted, unless a code on the way is not the local one
 pub record KeepsWin (rules : RuleLines) (side : Colour) (n : ℕ) (plies : List LinePly)
     (end : EndOfLine) : Type 0 where
   pub few : length plies ≤ n
@@ -38,13 +38,14 @@ pub record KeepsWin (rules : RuleLines) (side : Colour) (n : ℕ) (plies : List 
   pub mate : (mover : Colour) → end ≡ ways.Mated mover → length plies ≡ n
   pub exit : (v : Value) → end ≡ ways.Exit v → length plies + lag_of v ≡ n
 
--- what a line from a hold does: nobody is mated, and an exit holds for the side and does not win.
--- The line has at most MOST_PLIES plies, and exactly that many where it is cut
+-- what a line from a hold does: nobody is mated, and an exit holds for the side and does not win,
+-- unless a code on the way is not the local one. The line has at most LINE_LIMIT plies, and exactly
+-- that many where it is cut
 pub record KeepsHold (rules : RuleLines) (side : Colour) (plies : List LinePly)
     (end : EndOfLine) : Type 0 where
   pub ends : EndsDrawn (counted (graph_by rules (value_by rules))) side end
-  pub few : length plies ≤ MOST_PLIES
-  pub cut : end ≡ ways.Cut → length plies ≡ MOST_PLIES
+  pub few : length plies ≤ LINE_LIMIT
+  pub cut : end ≡ ways.Cut → length plies ≡ LINE_LIMIT
 
 -- the file opens, the position is in its set, and these are the plies and the end of the side's
 -- line by the codes in the file, as they are read after each number of plies. The line is a game of

@@ -16,8 +16,8 @@ use Rattle.frz_commands_line.specs.LineMeaning.{MeansLine}
 use Rattle.frz_commands_line.specs.LineOf.{LineComes, IsLinedIn, IsLinedAt}
 use Rattle.frz_commands_line.specs.Sides.{on_side, side_of}
 
--- what the command needs. `Once` counts what opening reads; what is read after some plies is
--- described by `later`
+-- what the command needs. Its answers depend on the files in which the table opens; what is read
+-- after some plies is described by `later`
 abbrev pub playing_needs : Needs
 playing_needs = record { store = true; reads = Once; input = false; memory = true }
 

@@ -43,7 +43,7 @@ use Rattle.frz_commands_line.specs.SessionOf.{IsSessionBy, played_text}
 
 -- what a session from a win within n plies does: it has at most n plies, with the lag of an exit
 -- (the plies to mate that its value gives) counted. The opponent is mated, or the exit wins for the
--- side, unless the input ends the session
+-- side, unless a code on the way is not the local one or the input ends the session
 pub record PlaysWin
     (rules : RuleLines) (side : Colour) (n : ℕ) (plies : List SessionPly)
     (end : EndOfSession) : Type 0 where
@@ -144,8 +144,9 @@ pub record TellsNoBound
   pub ends : Ends has text (Err fault)
   pub no_bound : has.end ≡ ways.NoBound
 
--- the input has come to a limit. Up to there a win and a hold are kept, and the opponent cannot
--- force mate after any ply, as in a session to its end
+-- the input has come to a limit. Up to there a win and a hold are kept; where the codes are the
+-- exact tables and the exits are true, the opponent cannot force mate after any ply, as in a
+-- session to its end
 pub record TellsLimit (later : ℕ → Files) (table : List ℕ) (side : Colour) (p : Board)
     (files : Files)
     (input text : List ℕ) : Type 0 where

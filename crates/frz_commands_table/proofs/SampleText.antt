@@ -58,9 +58,9 @@ black_king_read : group_of (codes "black" ∷ codes "1" ∷ codes "K:all" ∷ []
 unfolding group_of number_of squares_of set_of
 black_king_read = refl
 
-everywhere : squares_of (codes "all") ≡ Some (2 ^ 64 - 1)
+all_is_every_square : squares_of (codes "all") ≡ Some (2 ^ 64 - 1)
 unfolding squares_of set_of
-everywhere = refl
+all_is_every_square = refl
 
 abbrev leaving : ℕ → Forbid
 leaving set = record { colour = White; kind = Rook; from = 2 ^ 64 - 1; to = set; only = Any }
@@ -69,7 +69,7 @@ forbid_read : (square : List ℕ) (set : ℕ) → squares_of square ≡ Some set
     → forbid_of (codes "white" ∷ codes "R" ∷ codes "from" ∷ codes "all" ∷ codes "to" ∷ square ∷ [])
     ≡ Some (leaving set)
 unfolding forbid_of
-forbid_read square set e = rw (e, everywhere) refl
+forbid_read square set e = rw (e, all_is_every_square) refl
 
 abbrev drawn : ExitLine
 drawn = record {
@@ -191,12 +191,12 @@ whole_fits : (r : RuleLines) → has_king_group r.groups White ≡ true
 whole_fits r white black size = rw (white, black, size) refl
 
 -- a text whose lines are these
-accepted : (text : List ℕ) (others : List (ℕ × List (List ℕ))) (r : RuleLines)
+accepted_as_read : (text : List ℕ) (others : List (ℕ × List (List ℕ))) (r : RuleLines)
     → nat_lt LONGEST_TEXT (length text) ≡ false
     → significant (numbered 1 (lines text)) ≡ (1, codes "freezer" ∷ codes "1" ∷ []) ∷ others
     → lines_of no_rules others ≡ Ok r → whole r ≡ Ok r → rules_of text ≡ Ok r
 unfolding rules_of
-accepted text others r short front read fits = rw (short, front, read) fits
+accepted_as_read text others r short front read fits = rw (short, front, read) fits
 
 -- the parts of a text that begins so, by the parts of its rest
 abbrev onto : (ℕ → Bool) → List ℕ → List (List ℕ) → List (List ℕ)
@@ -216,11 +216,11 @@ two_more : (p : ℕ → Bool) (a b : ℕ) (rest : List ℕ) (parts : List (List 
 two_more p a b rest parts e f h = rw (e, f, h) refl
 
 -- a line with words that is no comment counts
-counts : (n : ℕ) (line w : List ℕ) (ws : List (List ℕ)) (ls : List (ℕ × List ℕ))
+line_counts : (n : ℕ) (line w : List ℕ) (ws : List (List ℕ)) (ls : List (ℕ × List ℕ))
     (others : List (ℕ × List (List ℕ))) → words line ≡ w ∷ ws → begins_hash w ≡ false
     → significant ls ≡ others
     → significant ((n, line) ∷ ls) ≡ (n, w ∷ ws) ∷ others
-counts n line w ws ls others e h more = rw (e, h, more) refl
+line_counts n line w ws ls others e h more = rw (e, h, more) refl
 
 -- the words of lines that name no square
 header_read : words (codes "freezer 1") ≡ codes "freezer" ∷ codes "1" ∷ []
@@ -321,12 +321,12 @@ module _ (letter digit : ℕ) (a : 97 ≤ letter) (h : letter ≤ 104) (one : 49
       ≡ (1, codes "freezer" ∷ codes "1" ∷ []) ∷ king_words square
   front_is =
       ap (λ (ls : List (List ℕ)). significant (numbered 1 ls)) lines_are
-      ∙ counts 1 _ _ _ king_lines (king_words square) header_read refl
-      (counts 2 _ _ _ rook_lines (rook_words square) king_read refl
-      (counts 3 _ _ _ black_lines (black_words square) rook_read refl
-      (counts 4 _ _ _ forbid_lines (forbid_words square) black_read refl
-      (counts 5 _ _ _ last_lines exit_words forbid_line_read refl
-      (counts 6 _ _ _ [] [] draw_read refl refl)))))
+      ∙ line_counts 1 _ _ _ king_lines (king_words square) header_read refl
+      (line_counts 2 _ _ _ rook_lines (rook_words square) king_read refl
+      (line_counts 3 _ _ _ black_lines (black_words square) rook_read refl
+      (line_counts 4 _ _ _ forbid_lines (forbid_words square) black_read refl
+      (line_counts 5 _ _ _ last_lines exit_words forbid_line_read refl
+      (line_counts 6 _ _ _ [] [] draw_read refl refl)))))
 
   abbrev number : ℕ
   number = 8 * (digit - 49) + (letter - 97)
@@ -370,7 +370,7 @@ text_read k small =
     let n = number letter digit a h one eight in
     let set = set_of (is_covered (record { first = n; last = n } ∷ [])) in record {
       rules = rules_by set;
-      read = accepted (sample_text k) (king_words (letter ∷ digit ∷ [])) (rules_by set) refl
+      read = accepted_as_read (sample_text k) (king_words (letter ∷ digit ∷ [])) (rules_by set) refl
           (front_is letter digit a h one eight)
           (rules_read (letter ∷ digit ∷ []) set (square_read letter digit a h one eight))
           (whole_fits (rules_by set) white_king black_king size_is);

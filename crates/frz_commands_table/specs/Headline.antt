@@ -37,8 +37,10 @@ pub record Headline (table : List ℕ) (files : Files) : Type 0 where
   pub black_table : IsTableOf rules (value_by rules) Black black
   -- so the file is the one file of its text
   pub one_file : IsOneFile (magic_of Plain) text rules (value_by rules) bytes
-  -- a win forces mate or an exit that is won, within its plies and against every legal reply. Where
-  -- the exits are true it forces mate, and with a win or a hold the opponent cannot force mate
+  -- a win forces mate, or a position outside the set whose value is a win, within its plies and
+  -- against every legal reply. That position may lie beyond an exit of another value, as an unknown
+  -- one. Where the exits are true the win forces mate, and with a win or a hold the opponent cannot
+  -- force mate
   pub white_means : TableMeans rules (value_by rules) White white
   pub black_means : TableMeans rules (value_by rules) Black black
   -- where the exit lines are true by the men (the men that their conditions leave show it), the

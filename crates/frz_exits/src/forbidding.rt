@@ -28,6 +28,7 @@ fn is_one_of(only: Only, p: &Position, m: Move) -> bool
 
 /// Does the line cover the move: a man of its colour and kind, its squares and its sort of move?
 #[tactic(auto, unfolding(crate::specs::Forbidding::covers))]
+#[inline(never)]
 fn line_covers(line: &Forbid, p: &Position, m: Move) -> bool
     ensures { result ≡ covers line.now p.now m }
 {
@@ -37,6 +38,7 @@ fn line_covers(line: &Forbid, p: &Position, m: Move) -> bool
 }
 
 /// Does one of the lines forbid the side the move?
+#[inline(always)]
 fn forbids(lines: &[Forbid], side: Colour, p: &Position, m: Move) -> bool
     ensures { result ≡ is_forbidden lines.now side p.now m }
 {
@@ -47,6 +49,7 @@ fn forbids(lines: &[Forbid], side: Colour, p: &Position, m: Move) -> bool
 
 /// Is the move free: covered by no forbid line of `side`? It is meant for a legal move of the side
 /// to move.
+#[inline(always)]
 pub fn allowed(r: &Rules, side: Colour, p: &Position, m: Move) -> bool
     ensures { result ≡ is_free r.now side p.now m }
 {

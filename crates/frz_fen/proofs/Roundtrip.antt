@@ -110,9 +110,9 @@ kept_same p (Some t) h =
     ap (λ (x : Bool). cond (has_passed p (other_of p.turn) t && not x) None (Some t)) beside
     ∙ kept_busy (has_passed p (other_of p.turn) t) t
 
-stands : (p : Board) → has_target_in_place p ≡ true → target_stands p p.ep ≡ true
+target_stands_there : (p : Board) → has_target_in_place p ≡ true → target_stands p p.ep ≡ true
 unfolding has_target_in_place
-stands p h = h
+target_stands_there p h = h
 
 -- a valid position is accepted
 shape_ok : (p : Board) → has_kings p ≡ true → has_pawns_inside p ≡ true → has_few_men p ≡ true →
@@ -127,7 +127,7 @@ valid_ok p v =
 checked_same : (p : Board) → IsValid p → checked (with_kept p) ≡ Ok p
 checked_same p v =
     let same : with_kept p ≡ p = ap (λ (o : Option ℕ). record p { ep = o })
-    (kept_same p p.ep (stands p v.target)) in
+    (kept_same p p.ep (target_stands_there p v.target)) in
     ap checked same ∙ ap (accepted p) (valid_ok p v)
 
 -- the placement
@@ -158,5 +158,5 @@ reads_back p v =
     sym
     (all_right (fen_text p) (texts_of p) p.cells p.turn tt tt p.ep (fields_read p v)
     (placement_read p v) (turn_read p.turn) refl
-    (target_read p p.ep (stands p v.target)) refl)
+    (target_read p p.ep (target_stands_there p v.target)) refl)
     ∙ checked_same p v

@@ -139,8 +139,8 @@ row_read cells r a m =
     (rank_reads (row cells r) (let e = row-length cells r a.size m in omega arith)
     (row-cells cells r a m)).cells
 
-next : (r : ℕ) → 8 * r + 8 ≡ 8 * suc r
-next r = omega arith
+cells_to_next_row : (r : ℕ) → 8 * r + 8 ≡ 8 * suc r
+cells_to_next_row r = omega arith
 
 rows_cells : (cells : List ℕ) (r : ℕ) → AreRows cells → r < 8 →
     board_cells (rows_down cells r) ≡ take (8 * r + 8) cells
@@ -151,7 +151,7 @@ rows_cells cells (suc r) a m =
     ∙ ap (λ xs. xs ++ rank_cells (rank_text (row cells (suc r))))
     (rows_cells cells r a (omega arith))
     ∙ ap (λ xs. take (8 * r + 8) cells ++ xs) (row_read cells (suc r) a m)
-    ∙ ap (λ n. take n cells ++ row cells (suc r)) (next r)
+    ∙ ap (λ n. take n cells ++ row cells (suc r)) (cells_to_next_row r)
     ∙ sym (take-add (8 * suc r) 8 cells)
 
 -- the placement is read as the cells

@@ -41,9 +41,9 @@ king_attack p c a b h (knight d s l) = absurd (let e = (one_man p c d King Knigh
 king_attack p c a b h (pawn d s l r) = absurd (let e = (one_man p c d King Pawn a h s).1 in cc)
 king_attack p c a b h (king d s l) = l
 
-back : (a b : ℕ) → max (files_apart a b) (ranks_apart a b) ≡ 1 →
+adjoining_back : (a b : ℕ) → max (files_apart a b) (ranks_apart a b) ≡ 1 →
     max (files_apart b a) (ranks_apart b a) ≡ 1
-back a b h = omega arith
+adjoining_back a b h = omega arith
 
 -- the kings of a valid position do not stand side by side
 pub kings_apart : (p : Board) → IsValid p → (s a : ℕ) → s < 64 → a < 64 →
@@ -57,7 +57,7 @@ kings_apart p v s a ls la h k near =
       on_board = ls;
       kind = King;
       stands = mine;
-      attack = king p.turn h (back a s near);
+      attack = king p.turn h (adjoining_back a s near);
     } in
     both_ways (is_in_check p (other_of p.turn)) v.safe
     (means_check p (other_of p.turn)

@@ -85,11 +85,11 @@ no_advance p m k h =
 abbrev IsPlayed : Board → Step → Board → Type 0
 IsPlayed p m q = IsStep m × (is_legal p m ≡ true) × (q ≡ after p m)
 
-made : (p : Board) (m : Step) (q r : Board) (k : Kind) → StartsAt p m k →
+played : (p : Board) (m : Step) (q r : Board) (k : Kind) → StartsAt p m k →
     goes p p.turn k m.from m.to ≡ true → promotes p.turn k m.to m.promo ≡ true →
     after_man p (Some (mine p k)) m ≡ r → q ≡ r → IsSafe p q → IsPlayed p m q
 unfolding is_legal
-made p m q r k b way promo e f s =
+played p m q r k b way promo e f s =
     let on : man_on p m.from ≡ Some (mine p k) = stands_on p p.turn k m.from b.stands in
     let free : holds p p.turn m.to ≡ false = false_from_ne_true (holds p p.turn m.to)
     (λ h. let w = held_stands p p.turn m.to h in b.free w.0 w.1) in
@@ -217,37 +217,37 @@ beside_means p b h =
           (cell_of_man (record { colour = other_of p.turn; kind = Pawn })) parts.1,
     )
 
-officer_goes : (p : Board) (k : Kind) (a b : ℕ) → k ≢ Pawn → reaches p p.turn k a b ≡ true →
+piece_goes : (p : Board) (k : Kind) (a b : ℕ) → k ≢ Pawn → reaches p p.turn k a b ≡ true →
     goes p p.turn k a b ≡ true
-officer_goes p King a b n h = h
-officer_goes p Queen a b n h = h
-officer_goes p Rook a b n h = h
-officer_goes p Bishop a b n h = h
-officer_goes p Knight a b n h = h
-officer_goes p Pawn a b n h = absurd (n refl)
+piece_goes p King a b n h = h
+piece_goes p Queen a b n h = h
+piece_goes p Rook a b n h = h
+piece_goes p Bishop a b n h = h
+piece_goes p Knight a b n h = h
+piece_goes p Pawn a b n h = absurd (n refl)
 
-officer : (k : Kind) → k ≢ Pawn → is_pawn k ≡ false
-officer King n = refl
-officer Queen n = refl
-officer Rook n = refl
-officer Bishop n = refl
-officer Knight n = refl
-officer Pawn n = absurd (n refl)
+piece_is_no_pawn : (k : Kind) → k ≢ Pawn → is_pawn k ≡ false
+piece_is_no_pawn King n = refl
+piece_is_no_pawn Queen n = refl
+piece_is_no_pawn Rook n = refl
+piece_is_no_pawn Bishop n = refl
+piece_is_no_pawn Knight n = refl
+piece_is_no_pawn Pawn n = absurd (n refl)
 
-officer_promotes : (c : Colour) (k : Kind) (b : ℕ) → k ≢ Pawn → promotes c k b None ≡ true
-officer_promotes c King b n = refl
-officer_promotes c Queen b n = refl
-officer_promotes c Rook b n = refl
-officer_promotes c Bishop b n = refl
-officer_promotes c Knight b n = refl
-officer_promotes c Pawn b n = absurd (n refl)
+piece_promotes : (c : Colour) (k : Kind) (b : ℕ) → k ≢ Pawn → promotes c k b None ≡ true
+piece_promotes c King b n = refl
+piece_promotes c Queen b n = refl
+piece_promotes c Rook b n = refl
+piece_promotes c Bishop b n = refl
+piece_promotes c Knight b n = refl
+piece_promotes c Pawn b n = absurd (n refl)
 
 officer_result : (p : Board) (m : Step) (k : Kind) → k ≢ Pawn → m.promo ≡ None →
     after_man p (Some (mine p k)) m ≡ moved p m k None
 officer_result p m k n e =
     result_is p m k k false None (ap (arrives (mine p k)) e)
-    (ap (λ x. x && takes_in_passing p p.turn m.from m.to) (officer k n))
-    (no_advance p m k (ap (λ x. x && advances p p.turn m.from m.to) (officer k n)))
+    (ap (λ x. x && takes_in_passing p p.turn m.from m.to) (piece_is_no_pawn k n))
+    (no_advance p m k (ap (λ x. x && advances p p.turn m.from m.to) (piece_is_no_pawn k n)))
 
 target_by : (p : Board) (m : Step) (target : Option ℕ) → advances p p.turn m.from m.to ≡ true →
     (HasEnemyBeside p m.to × (target ≡ Some (passed_over m.from m.to)))
@@ -266,13 +266,13 @@ target_by p m target a (inr h) =
 
 pub relation_tests : (p : Board) (m : Step) (q : Board) → IsValid p → Legal p m q → IsPlayed p m q
 relation_tests p m q v (piece k b n hit promo e s) =
-    made p m q (moved p m k None) k b (officer_goes p k m.from m.to n (attack_is p m k b hit))
-    (ap (promotes p.turn k m.to) promo ∙ officer_promotes p.turn k m.to n)
+    played p m q (moved p m k None) k b (piece_goes p k m.from m.to n (attack_is p m k b hit))
+    (ap (promotes p.turn k m.to) promo ∙ piece_promotes p.turn k m.to n)
     (officer_result p m k n promo) e s
 relation_tests p m q v (capture k j b hit enemy becomes e s) =
     let reach = attack_is p m Pawn b hit in
     let promo = becomes_test p m k b.step.promo becomes in
-    made p m q (moved p m k None) Pawn b
+    played p m q (moved p m k None) Pawn b
     (either_or _ _ (inl
     (either_or _ _ (inl
     (and_from (pawn_reaches p.turn m.from m.to) (holds p (other_of p.turn) m.to) reach
@@ -285,7 +285,7 @@ relation_tests p m q v (step k b file rank empty becomes e s) =
     let promo = becomes_test p m k b.step.promo becomes in
     let ahead = and_from (files_apart m.from m.to == 0) (is_forward p.turn 1 m.from m.to)
     (eq-eqb (files_apart m.from m.to) 0 file) (means_forward p.turn m.from m.to rank) in
-    made p m q (moved p m k None) Pawn b
+    played p m q (moved p m k None) Pawn b
     (either_or _ _ (inl
     (either_or _ _ (inr
     (and_from (files_apart m.from m.to == 0 && is_forward p.turn 1 m.from m.to) (is_empty p m.to)
@@ -304,7 +304,7 @@ relation_tests p m q v (advance target b home file ranks empty over none beside 
     (eq-eqb (slice_index p.cells m.to) 0 empty)
     (eq-eqb (slice_index p.cells (passed_over m.from m.to)) 0 over) in
     let goes_two : advances p p.turn m.from m.to ≡ true = and_from _ _ line free in
-    made p m q (moved p m Pawn target) Pawn b (either_or _ _ (inr (either_or _ _ (inl goes_two))))
+    played p m q (moved p m Pawn target) Pawn b (either_or _ _ (inr (either_or _ _ (inl goes_two))))
     promo.0
     (result_is p m Pawn Pawn false target promo.1 (straight_no_taking p p.turn m.from m.to file)
     (target_by p m target goes_two beside)) e s
@@ -316,7 +316,7 @@ relation_tests p m q v (en_passant b hit target none e s) =
     let taking : takes_in_passing p p.turn m.from m.to ≡ true =
     and_from (pawn_reaches p.turn m.from m.to) (is_target p.ep m.to) reach
     (ap (λ o. is_target o m.to) target ∙ eq-eqb m.to m.to refl) in
-    made p m q (built p m (mine p Pawn) true None) Pawn b
+    played p m q (built p m (mine p Pawn) true None) Pawn b
     (either_or _ _ (inr (either_or _ _ (inr taking)))) promo.0
     (result_is p m Pawn Pawn true None promo.1 taking
     (no_advance p m Pawn (aside_no_advance p p.turn m.from m.to reach))) e s

@@ -145,20 +145,20 @@ kept_by : {X : Type 0} (b : Bool) (xs : List X) (y x : X) → b ≡ true → y �
 kept_by true xs y x h e = inl e
 kept_by false xs y x h e = cc
 
-past : {X : Type 0} (b : Bool) (xs : List X) (y x : X) → IsIn xs x → IsIn (cond b (y ∷ xs) xs) x
-past true xs y x h = inr h
-past false xs y x h = h
+kept_in : {X : Type 0} (b : Bool) (xs : List X) (y x : X) → IsIn xs x → IsIn (cond b (y ∷ xs) xs) x
+kept_in true xs y x h = inr h
+kept_in false xs y x h = h
 
 in_filter : {X : Type 0} (t : X → Bool) (x : X) → t x ≡ true → (xs : List X) → IsIn xs x →
     IsIn (filter t xs) x
 in_filter t x e [] h = absurd h
 in_filter t x e (y ∷ xs) (inl h) = kept_by (t y) (filter t xs) y x (ap t h ∙ e) h
-in_filter t x e (y ∷ xs) (inr h) = past (t y) (filter t xs) y x (in_filter t x e xs h)
+in_filter t x e (y ∷ xs) (inr h) = kept_in (t y) (filter t xs) y x (in_filter t x e xs h)
 
-found : {X : Type 0} (xs : List X) (x : X) → IsIn xs x → Contains xs x
-found [] x h = absurd h
-found (y ∷ xs) x (inl h) = (0, omega arith, h)
-found (y ∷ xs) x (inr h) = Contains-append_right (y ∷ []) xs x (found xs x h)
+contained : {X : Type 0} (xs : List X) (x : X) → IsIn xs x → Contains xs x
+contained [] x h = absurd h
+contained (y ∷ xs) x (inl h) = (0, omega arith, h)
+contained (y ∷ xs) x (inr h) = Contains-append_right (y ∷ []) xs x (contained xs x h)
 
 in_range : (k a n : ℕ) → a ≤ k → k < a + n → IsIn (range_with_len a n) k
 in_range k a zero h l = absurd (omega arith)
@@ -185,7 +185,7 @@ in_between a b (Some Pawn) h = cc
 pub listed : (p : Board) (m : Step) → IsStep m → is_legal p m ≡ true → Contains (legal_moves_of p) m
 unfolding every_step
 listed p m s h =
-    found (legal_moves_of p) m (in_filter (is_legal p) m h every_step
+    contained (legal_moves_of p) m (in_filter (is_legal p) m h every_step
     (in_flat (λ a. flat_map (λ b. steps_between a b) squares) m.from m
     (in_flat (λ b. steps_between m.from b) m.to m (in_between m.from m.to m.promo s.promo) squares
     (in_squares m.to s.to)) squares (in_squares m.from s.from)))

@@ -126,9 +126,9 @@ same_jump f g r (inl h) (inr k) = absurd (let a = h.1 in let b = k.1 in omega ar
 same_jump f g r (inr h) (inl k) = absurd (let a = h.1 in let b = k.1 in omega arith)
 same_jump f g r (inr h) (inr k) = omega arith
 
-turned : (f r : ℕ) → Jump f r → Jump r f
-turned f r (inl h) = inr (h.1, h.0)
-turned f r (inr h) = inl (h.1, h.0)
+jump_turned : (f r : ℕ) → Jump f r → Jump r f
+jump_turned f r (inl h) = inr (h.1, h.0)
+jump_turned f r (inr h) = inl (h.1, h.0)
 
 -- a bishop that attacks a square attacks none beside it on its lines, and no more does a knight
 bishop_misses : (a s d : ℕ) → Beside s d → files_apart a s ≡ ranks_apart a s →
@@ -150,9 +150,9 @@ knight_misses a s d (on_rank e n) h k =
 knight_misses a s d (on_file e n) h k =
     let same : files_apart a d ≡ files_apart a s = ap (λ r. apart (file_of a) r) e in
     let far = same_jump (ranks_apart a s) (ranks_apart a d) (files_apart a s)
-    (turned (files_apart a s) (ranks_apart a s) h)
+    (jump_turned (files_apart a s) (ranks_apart a s) h)
     (subst (λ r. Jump (ranks_apart a d) r) same
-    (turned (files_apart a d) (ranks_apart a d) k)) in
+    (jump_turned (files_apart a d) (ranks_apart a d) k)) in
     not_equal (rank_of a) (rank_of s) (rank_of d) (ranks_apart a s) refl (sym far) n
 
 -- each square has one beside it on its rank, and one on its file
@@ -191,11 +191,11 @@ not_itself s d b e =
     omega arith
 
 -- a king beside both is beside the square, or on it
-near : (w s h v : ℕ) → rank_of h ≡ rank_of s → file_of v ≡ file_of s →
+king_between : (w s h v : ℕ) → rank_of h ≡ rank_of s → file_of v ≡ file_of s →
     max (files_apart w h) (ranks_apart w h) ≡ 1 → max (files_apart w v) (ranks_apart w v) ≡ 1 →
     (max (files_apart w s) (ranks_apart w s) ≡ 1)
     ⊎ ((file_of w ≡ file_of s) × (rank_of w ≡ rank_of s))
-near w s h v e f a b =
+king_between w s h v e f a b =
     let r : ranks_apart w h ≡ ranks_apart w s = ap (λ x. apart (rank_of w) x) e in
     let g : files_apart w v ≡ files_apart w s = ap (λ x. apart (file_of w) x) f in
     elim (cases_lt (max (files_apart w s) (ranks_apart w s)) 1) [
@@ -355,7 +355,7 @@ module _ (p : Board) (v : IsValid p) (minor : HasOneMinor p (other_of p.turn))
               let u = by_king first r.0 r.1 (on_file r.2 r.3) also in
               let same = one_king p (other_of p.turn) u.0 w.0 v u.1 w.1 u.2 w.2 in
               let both = subst (λ x. max (files_apart x r.0) (ranks_apart x r.0) ≡ 1) same u.3 in
-              elim (near w.0 s h.0 r.0 h.2 r.2 w.3 both) [
+              elim (king_between w.0 s h.0 r.0 h.2 r.2 w.3 both) [
                 | inl e ↦ kings_apart p v s w.0 ls w.1 mine w.2 e
                 | inr e ↦ (
                     let on : w.0 ≡ s = same_square w.0 s e.0 e.1 in

@@ -122,28 +122,28 @@ between_room p a b =
     let ways = man_ways p p.turn (man_on p a) (not (holds p p.turn b)) a b in
     omega (arith, legal, fewer, ways)
 
-zeros : sum_by (λ (b : ℕ). 0) squares ≤ 0
+sum_of_zeros : sum_by (λ (b : ℕ). 0) squares ≤ 0
 unfolding squares
-zeros = omega arith
+sum_of_zeros = omega arith
 
-ones : sum_by (λ (b : ℕ). 1) squares ≤ 64
+sum_of_ones : sum_by (λ (b : ℕ). 1) squares ≤ 64
 unfolding squares
-ones = omega arith
+sum_of_ones = omega arith
 
 room_sum : (a : ℕ) → fits_rank a ≡ true → (s : Bool) (c : Colour) (k : Kind) →
     sum_by (λ b. cond s (kind_room c k a b) 0) squares ≤ cond s 64 0
-room_sum a fits false c k = zeros
-room_sum a fits true c King = ones
-room_sum a fits true c Queen = ones
-room_sum a fits true c Rook = ones
-room_sum a fits true c Bishop = ones
-room_sum a fits true c Knight = ones
+room_sum a fits false c k = sum_of_zeros
+room_sum a fits true c King = sum_of_ones
+room_sum a fits true c Queen = sum_of_ones
+room_sum a fits true c Rook = sum_of_ones
+room_sum a fits true c Bishop = sum_of_ones
+room_sum a fits true c Knight = sum_of_ones
 room_sum a fits true White Pawn = le_from_test _ _ (and_parts _ _ fits).0
 room_sum a fits true Black Pawn = le_from_test _ _ (and_parts _ _ fits).1
 
 man_room_sum : (a : ℕ) → fits_rank a ≡ true → (t : Colour) (o : Option Man) →
     sum_by (λ b. man_room t o a b) squares ≤ cond (is_man_of t o) 64 0
-man_room_sum a fits t None = zeros
+man_room_sum a fits t None = sum_of_zeros
 man_room_sum a fits t (Some man) = room_sum a fits (same_colour man.colour t) man.colour man.kind
 
 from_room : (p : Board) (a : ℕ) → fits_rank a ≡ true →

@@ -16,11 +16,11 @@ use Rattle.frz_board.specs.declared.man.Kind.{Kind}
 use Rattle.frz_board.specs.declared.man.Kind.TheVariants.{King, Queen, Rook, Bishop, Knight, Pawn}
 use Rattle.frz_board.specs.declared.man.Man.{Man}
 
-four : (sc n g pr s : Bool) → (n && g) ≡ false → (((sc && n) && (g && pr)) && s) ≡ false
-four true true true pr s h = cc
-four true true false pr s h = refl
-four true false g pr s h = refl
-four false n g pr s h = refl
+one_test_fails : (sc n g pr s : Bool) → (n && g) ≡ false → (((sc && n) && (g && pr)) && s) ≡ false
+one_test_fails true true true pr s h = cc
+one_test_fails true true false pr s h = refl
+one_test_fails true false g pr s h = refl
+one_test_fails false n g pr s h = refl
 
 no_promo : (sc n g pr s : Bool) → pr ≡ false → (((sc && n) && (g && pr)) && s) ≡ false
 no_promo true true true true s h = cc
@@ -107,7 +107,7 @@ module _ (p : Board) (a b : ℕ) (man : Man) (on : man_on p a ≡ Some man) wher
   unfolding legal_between
   no_way h =
       filter_none (is_legal p) step
-      (λ k. opened k ∙ four (same_colour man.colour p.turn) (not (holds p p.turn b))
+      (λ k. opened k ∙ one_test_fails (same_colour man.colour p.turn) (not (holds p p.turn b))
       (goes p man.colour man.kind a b) (promotes man.colour man.kind b k)
       (not (is_in_check (after p (step k)) p.turn)) h) promotions
 

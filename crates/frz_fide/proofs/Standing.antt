@@ -37,7 +37,7 @@ pub holds_from : (p : Board) (m : Step) → Move p m → holds p p.turn m.from �
 holds_from p m f =
     ap (is_man_of p.turn) f.on ∙ ap (λ c. same_colour c p.turn) f.own ∙ own_colour p.turn
 
--- the pawn that is taken in passing stands ahead of the target, as its side sees it
+-- the pawn that is captured en passant stands ahead of the target, as its side sees it
 ahead_is_beside : (c : Colour) (a b : ℕ) → is_forward c 1 a b ≡ true →
     beside_on_file a b ≡ ahead (other_of c) b
 ahead_is_beside White a b h = let e = eqb-true (b / 8) (a / 8 + 1) h in omega arith
@@ -48,7 +48,7 @@ pub target_is : (o : Option ℕ) (b : ℕ) → is_target o b ≡ true → o ≡ 
 target_is None b h = absurd cc
 target_is (Some t) b h = ap Some (eqb-true t b h)
 
--- an enemy pawn stands on the square where a pawn is taken in passing
+-- an enemy pawn stands on the square where a pawn is captured en passant
 pub taken : (p : Board) (m : Step) → IsValid p → (c : Colour) → c ≡ p.turn →
     takes_in_passing p c m.from m.to ≡ true →
     slice_index p.cells (beside_on_file m.from m.to) ≡ cell_of_man

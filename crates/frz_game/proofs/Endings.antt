@@ -14,10 +14,11 @@ stale_by : (ms : List Step) (check : Bool) (turn : Colour) → ms ≡ [] → che
     node_by true ms check turn ≡ Stalemate turn
 stale_by ms check turn h k = rw (h, k) refl
 
-there : (ms : List Step) (check : Bool) (turn : Colour) → node_by true ms check turn ≡ Broken → ⊥
-there (m ∷ ms) check turn e = cc
-there [] true turn e = cc
-there [] false turn e = cc
+never_broken : (ms : List Step) (check : Bool) (turn : Colour) →
+    node_by true ms check turn ≡ Broken → ⊥
+never_broken (m ∷ ms) check turn e = cc
+never_broken [] true turn e = cc
+never_broken [] false turn e = cc
 
 pub mate_is : (p : Board) → IsMate p →
     node_by true (legal_moves_of p) (is_in_check p p.turn) p.turn ≡ Mate p.turn
@@ -33,4 +34,4 @@ going_is p h = goes true (legal_moves_of p) (is_in_check p p.turn) p.turn refl h
 
 pub node_is_there : (p : Board) →
     node_by true (legal_moves_of p) (is_in_check p p.turn) p.turn ≡ Broken → ⊥
-node_is_there p e = there (legal_moves_of p) (is_in_check p p.turn) p.turn e
+node_is_there p e = never_broken (legal_moves_of p) (is_in_check p p.turn) p.turn e

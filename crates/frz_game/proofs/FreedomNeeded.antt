@@ -80,12 +80,12 @@ small_by : (b : Bool) → lag_of (if b then Draw else Unknown) ≤ 1000
 small_by true = omega arith
 small_by false = omega arith
 
-small : HasSmallLags rules_value
-small q valid =
+rules_lags_small : HasSmallLags rules_value
+rules_lags_small q valid =
     small_by (conditions_hold q (record { negated = false; test = Count White Rook 0 0 } ∷ []))
 
 pub table : (codes : List ℕ) × IsTableOf renounced_rook rules_value White codes
-table = table_there renounced_rook rules_value small White
+table = table_there renounced_rook rules_value rules_lags_small White
 
 pub h2_code : slice_index table.0 (Num renounced_rook.groups from_h2) ≡ code_of (Fails 0)
 h2_code =

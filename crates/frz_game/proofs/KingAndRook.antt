@@ -49,12 +49,12 @@ whole = record {
   );
 }
 
-drawn : are_drawn_by_men king_and_rook ≡ true
+drawn_by_men : are_drawn_by_men king_and_rook ≡ true
 unfolding are_drawn_by_men leave_dead leave_bare leave_minor squares
-drawn = refl
+drawn_by_men = refl
 
 pub rook_drawn : IsDrawnOutside king_and_rook (value_by king_and_rook)
-rook_drawn = whole_set_drawn king_and_rook whole drawn
+rook_drawn = whole_set_drawn king_and_rook whole drawn_by_men
 
 no_forbid : (side : Colour) → HasNoForbid king_and_rook side
 no_forbid side = refl

@@ -28,8 +28,8 @@ use Rattle.frz_game.proofs.MenCounted.{number, count_cons, count_squares, places
 abbrev without : (ℕ → Bool) → ℕ → ℕ → Bool
 without t y s = t s && not (s == y)
 
-differ : (s y : ℕ) → s ≢ y → (s == y) ≡ false
-differ s y n =
+differ_by_test : (s y : ℕ) → s ≢ y → (s == y) ≡ false
+differ_by_test s y n =
     elim (cases_Bool (s == y)) [
       | inl e ↦ absurd (n (eqb-true s y e))
       | inr e ↦ e
@@ -41,7 +41,7 @@ and_not true c e = sym (ap not e)
 and_not false c e = refl
 
 kept_test : (t : ℕ → Bool) (y s : ℕ) → s ≢ y → t s ≡ without t y s
-kept_test t y s n = and_not (t s) (s == y) (differ s y n)
+kept_test t y s n = and_not (t s) (s == y) (differ_by_test s y n)
 
 above : (t : ℕ → Bool) (y a n : ℕ) → y < a →
     count_by t (range_with_len a n) ≡ count_by (without t y) (range_with_len a n)

@@ -14,12 +14,12 @@ use Rattle.frz_game.specs.Games.{game_of}
 use Rattle.frz_game.specs.Values.{IsTrueValue, AreTrueExits}
 
 -- each value is unknown
-unknown : (rules : RuleLines) (q : Board) → rules.exits ≡ [] → Unknown ≡ value_by rules q
-unknown rules q e = sym (ap (λ (lines : List ExitLine). first_value lines q) e)
+each_unknown : (rules : RuleLines) (q : Board) → rules.exits ≡ [] → Unknown ≡ value_by rules q
+each_unknown rules q e = sym (ap (λ (lines : List ExitLine). first_value lines q) e)
 
 pub true_exits : (rules : RuleLines) → rules.exits ≡ [] → AreTrueExits rules (value_by rules)
 true_exits rules e p m inside legal outside =
-    subst (λ (v : Value). IsTrueValue v (after p m)) (unknown rules (after p m) e) tt
+    subst (λ (v : Value). IsTrueValue v (after p m)) (each_unknown rules (after p m) e) tt
 
 not_good : (side : Colour) → class_of Unknown side ≡ Good → is_numbered Unknown ≡ true
 not_good side g = absurd (cc)
@@ -27,5 +27,5 @@ not_good side g = absurd (cc)
 pub numbered : (rules : RuleLines) → rules.exits ≡ [] → (side : Colour) →
     AllNumbered (game_of rules (value_by rules)) side
 numbered rules e side q exit =
-    subst (λ (v : Value). class_of v side ≡ Good → is_numbered v ≡ true) (unknown rules q e)
+    subst (λ (v : Value). class_of v side ≡ Good → is_numbered v ≡ true) (each_unknown rules q e)
     (not_good side)

@@ -77,12 +77,12 @@ abbrev free_at : Board → ℕ → ℕ → Bool
 free_at p a b = is_free renounced_rook p.turn p (quiet a b)
 
 -- a list that contains nothing is empty
-nothing : (ms : List Step) → ((m : Step) → Contains ms m → ⊥) → ms ≡ []
-nothing [] none = refl
-nothing (m ∷ ms) none = absurd (none m (first_in m ms))
+empty_where_none : (ms : List Step) → ((m : Step) → Contains ms m → ⊥) → ms ≡ []
+empty_where_none [] none = refl
+empty_where_none (m ∷ ms) none = absurd (none m (first_in m ms))
 
-something : (ms : List Step) (m : Step) → Contains ms m → ms ≢ []
-something ms m i e = none_in_empty m (subst (λ (xs : List Step). Contains xs m) e i)
+not_empty_where_one : (ms : List Step) (m : Step) → Contains ms m → ms ≢ []
+not_empty_where_one ms m i e = none_in_empty m (subst (λ (xs : List Step). Contains xs m) e i)
 
 module _ (p : Board) (none : has_no_pawn p ≡ true) where
   -- a move that leaves the king attacked is not legal
@@ -94,7 +94,7 @@ module _ (p : Board) (none : has_no_pawn p ≡ true) where
 
   no_move : each_passes (attacked_after p) p ≡ true → legal_moves_of p ≡ []
   no_move all =
-      nothing (legal_moves_of p) (λ m i. (
+      empty_where_none (legal_moves_of p) (λ m i. (
       let attacked = passes p m none i (attacked_after p) all in
       let no = not_attacked m i in cc))
 
@@ -119,11 +119,11 @@ abbrev arm : Board → Step → Arm Step Board Value
 arm p m = arm_of (game_of renounced_rook rules_value) p m
 
 -- what a position of the set is
-going : (p : Board) (m : Step) → is_member renounced_rook.groups p ≡ true →
+goes_on : (p : Board) (m : Step) → is_member renounced_rook.groups p ≡ true →
     Contains (legal_moves_of p) m → arena.node p ≡ Going p.turn
-going p m inside i =
+goes_on p m inside i =
     goes (is_member renounced_rook.groups p) (legal_moves_of p) (is_in_check p p.turn) p.turn
-    inside (something (legal_moves_of p) m i)
+    inside (not_empty_where_one (legal_moves_of p) m i)
 
 -- an arm is that of a legal move
 of_arm : (p : Board) (a : Arm Step Board Value) → IsArm arena p a →
@@ -169,29 +169,29 @@ unfolding in_set
 later_inside = refl
 
 -- the moves are legal
-legal : (p : Board) (a b : ℕ) → a < 64 → b < 64 → is_legal p (quiet a b) ≡ true →
+quiet_is_listed : (p : Board) (a b : ℕ) → a < 64 → b < 64 → is_legal p (quiet a b) ≡ true →
     Contains (legal_moves_of p) (quiet a b)
-legal p a b la lb e = listed p (quiet a b) (record { from = la; to = lb; promo = refl }) e
+quiet_is_listed p a b la lb e = listed p (quiet a b) (record { from = la; to = lb; promo = refl }) e
 
 h1_mates : Contains (legal_moves_of from_h1) (quiet 7 63)
 unfolding is_legal squares
-h1_mates = legal from_h1 7 63 (omega arith) (omega arith) refl
+h1_mates = quiet_is_listed from_h1 7 63 (omega arith) (omega arith) refl
 
 h2_mates : Contains (legal_moves_of from_h2) (quiet 15 63)
 unfolding is_legal squares
-h2_mates = legal from_h2 15 63 (omega arith) (omega arith) refl
+h2_mates = quiet_is_listed from_h2 15 63 (omega arith) (omega arith) refl
 
 h1_waits : Contains (legal_moves_of from_h1) (quiet 7 6)
 unfolding is_legal squares
-h1_waits = legal from_h1 7 6 (omega arith) (omega arith) refl
+h1_waits = quiet_is_listed from_h1 7 6 (omega arith) (omega arith) refl
 
 waited_steps : Contains (legal_moves_of waited) (quiet 56 57)
 unfolding is_legal squares
-waited_steps = legal waited 56 57 (omega arith) (omega arith) refl
+waited_steps = quiet_is_listed waited 56 57 (omega arith) (omega arith) refl
 
 stepped_mates : Contains (legal_moves_of stepped) (quiet 6 62)
 unfolding is_legal squares
-stepped_mates = legal stepped 6 62 (omega arith) (omega arith) refl
+stepped_mates = quiet_is_listed stepped 6 62 (omega arith) (omega arith) refl
 
 -- Black is mated on a8 and on b8
 mate_there : IsMated chess Black mated
@@ -242,7 +242,7 @@ pub h2_fails : IsBoundAt renounced_rook rules_value White from_h2 (Fails 0)
 unfolding squares
 h2_fails = (
   inr (
-    going from_h2 (quiet 15 63) h2_inside h2_mates,
+    goes_on from_h2 (quiet 15 63) h2_inside h2_mates,
     λ a i free. (
         let from = of_arm from_h2 a i in
         let yes = free_is from_h2 refl a from.0 from.1 from.2 free in
@@ -272,13 +272,13 @@ unfolding squares
 waited_one = refl
 
 waited_goes : arena.node waited ≡ Going Black
-waited_goes = going waited (quiet 56 57) waited_inside waited_steps
+waited_goes = goes_on waited (quiet 56 57) waited_inside waited_steps
 
 stepped_goes : arena.node stepped ≡ Going White
-stepped_goes = going stepped (quiet 6 62) stepped_inside stepped_mates
+stepped_goes = goes_on stepped (quiet 6 62) stepped_inside stepped_mates
 
 h1_goes : arena.node from_h1 ≡ Going White
-h1_goes = going from_h1 (quiet 7 6) h1_inside h1_waits
+h1_goes = goes_on from_h1 (quiet 7 6) h1_inside h1_waits
 
 -- what each move leads to
 waits_to : after from_h1 (quiet 7 6) ≡ waited

@@ -103,9 +103,9 @@ kind_there groups p member c k s ls h =
     groups state
 
 -- what a test asks of a count
-asked : (t : Test) (q : Board) (c : Colour) (k : Kind) (n : ℕ) → asks_at_most t c k n ≡ true →
-    test_holds t q ≡ true → count_of q c k ≤ n
-asked (Count side kind least most) q c k n h e =
+counts_as_asked : (t : Test) (q : Board) (c : Colour) (k : Kind) (n : ℕ) →
+    asks_at_most t c k n ≡ true → test_holds t q ≡ true → count_of q c k ≤ n
+counts_as_asked (Count side kind least most) q c k n h e =
     let first = and_parts (same_colour side c) (same_kind kind k && nat_le most n) h in
     let second = and_parts (same_kind kind k) (nat_le most n) first.1 in
     let range = and_parts (nat_le least (count_of q side kind)) (nat_le (count_of q side kind) most)
@@ -118,11 +118,11 @@ asked (Count side kind least most) q c k n h e =
     let mine : count_of q c k ≤ most = subst (λ (d : Colour). count_of q d k ≤ most)
     (same_side side c first.0) there in
     omega arith
-asked (Turn side) q c k n h e = absurd (cc)
-asked (On side man set) q c k n h e = absurd (cc)
-asked (Distance side square least most) q c k n h e = absurd (cc)
-asked Check q c k n h e = absurd (cc)
-asked Always q c k n h e = absurd (cc)
+counts_as_asked (Turn side) q c k n h e = absurd (cc)
+counts_as_asked (On side man set) q c k n h e = absurd (cc)
+counts_as_asked (Distance side square least most) q c k n h e = absurd (cc)
+counts_as_asked Check q c k n h e = absurd (cc)
+counts_as_asked Always q c k n h e = absurd (cc)
 
 -- no other man than a pawn becomes another
 pub promotes_none : (c : Colour) (k : Kind) (b : ℕ) (o : Option Kind) → k ≢ Pawn →
@@ -209,7 +209,7 @@ module _ (rules : RuleLines) (value : Board → Value) (q : Board)
               let w = some_and_all (λ (cond : Condition). not cond.negated
               && asks_at_most cond.test c k n) (condition_holds q) conds says hold in
               let both = and_parts (not w.0.negated) (asks_at_most w.0.test c k n) w.1 in
-              asked w.0.test q c k n both.1
+              counts_as_asked w.0.test q c k n both.1
               (not_negated w.0.negated (test_holds w.0.test q) both.0 w.2))
         ]
       ]

@@ -21,6 +21,7 @@ abbrev pub IsTableOf : RuleLines → (Board → Value) → Colour → List ℕ �
 IsTableOf rules value side codes =
     IsTable (numbers_by rules.groups) (arena_by rules value) side codes
 
--- within n plies the side forces mate, or a position outside the set whose value is a win for it
+-- within n plies the side forces mate, or a position outside the set whose value is a win for it.
+-- That position need not be an exit: it may lie beyond an exit of another value, as an unknown one
 abbrev pub ForcesWin : RuleLines → (Board → Value) → Colour → ℕ → Board → Type 0
 ForcesWin rules value side n p = Forces chess (goals_of (game_of rules value) side) side n p

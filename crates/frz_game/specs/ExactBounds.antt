@@ -35,13 +35,16 @@ pub record MeansExactly (rules : RuleLines) (value : Board → Value) (side : Co
   pub drawn : IsDrawnOutside rules value → IsExactBound side p b
   -- where each value outside truly says who wins or that the game is drawn, its outcome is exact
   pub decided : AreTrueExits rules value → AreDecidedOutside rules value → HasExactOutcome side p b
-  -- where no value outside is bad for the opponent, no mate is quicker than the win
+  -- where the exits are true and no value outside is bad for the opponent, no mate is quicker than
+  -- the win
   pub win : AreTrueExits rules value → NoneIsBad (game_of rules value) (other_of side) →
       (n : ℕ) → b ≡ Wins n → MatesIn chess side n p
-  -- where each value outside that is bad for the side is a win of its opponent, a failure is lost
+  -- where the exits are true, and each value outside that is bad for the side is a win of its
+  -- opponent, a failure is lost
   pub lost : AreTrueExits rules value → IsLostOutside rules value side →
       (m : ℕ) → b ≡ Fails m → CanForceMate chess (other_of side) p
-  -- where no value outside is bad for the side, a failure is lost in just its plies
+  -- where the exits are true and no value outside is bad for the side, a failure is lost in just
+  -- its plies
   pub lost_in : AreTrueExits rules value → NoneIsBad (game_of rules value) side →
       (m : ℕ) → b ≡ Fails m → MatesIn chess (other_of side) m p
 

@@ -19,7 +19,8 @@ use Rattle.frz_game.specs.Values.{AreTrueExits}
 -- a win of the side within n plies
 pub record MeansWin (rules : RuleLines) (value : Board → Value) (side : Colour) (n : ℕ)
     (p : Board) : Type 0 where
-  -- within n plies the side forces mate or an assigned win, against every legal reply
+  -- within n plies the side forces mate, or a position outside the set whose value is a win for it,
+  -- against every legal reply; such a position may lie beyond an exit of another value
   pub forced : ForcesWin rules value side n p
   -- it forces mate, where the exits are true
   pub mate : AreTrueExits rules value → (k : ℕ) × ForcesMate chess side k p
@@ -33,7 +34,8 @@ pub record MeansWin (rules : RuleLines) (value : Board → Value) (side : Colour
 abbrev pub MeansHold : RuleLines → (Board → Value) → Colour → Board → Type 0
 MeansHold rules value side p = AreTrueExits rules value → NeverForcesMate chess (other_of side) p
 
--- what a bound of the side says of chess; a failure says nothing
+-- what a bound of the side says of chess. Where the exits are not known to be true, a win says no
+-- more than `forced`, and a hold nothing; a failure never says anything
 abbrev pub Means : RuleLines → (Board → Value) → Colour → Board → Bound → Type 0
 Means rules value side p (Wins n) = MeansWin rules value side n p
 Means rules value side p Holds = MeansHold rules value side p

@@ -115,6 +115,7 @@ impl<B: ExitBook> Game<'_, B> {
 
     /// Where a legal move leads. The set is asked first for the number after a capture, and the
     /// position after the move is looked at only where that gives none.
+    #[inline(never)]
     fn next_by_taking(&self, i: u32, p: &Bitboards, m: Move) -> Next
         requires number { HasNumber self.now.set.now i p.now }
         requires legal { is_legal p.now m ≡ true }

@@ -70,8 +70,8 @@ state_of_place g man s k h =
     any_at (is_at g.colour man s) g.states k (man.kind, s) h.1
     (ap (λ c. is_at c man s (man.kind, s)) h.0 ∙ at_itself man s man.kind refl)
 
-numbers : (k l : Kind) (s t : ℕ) → k ≡ l → s ≡ t → state_number (k, s) ≡ state_number (l, t)
-numbers k l s t e f =
+equal_numbers : (k l : Kind) (s t : ℕ) → k ≡ l → s ≡ t → state_number (k, s) ≡ state_number (l, t)
+equal_numbers k l s t e f =
     ap (λ (x : Kind). state_number (x, s)) e ∙ ap (λ (x : ℕ). state_number (l, x)) f
 
 -- no man stands at a place on an empty square
@@ -93,7 +93,7 @@ other_place g man r s k j st in_order pl is e here n =
     (cell_of_man (record { colour = g.colour; kind = st.0 })) t) in
     let kinds : st.0 ≡ man.kind = ap (λ (m : Man). m.kind) (sym same) in
     n (state_once g.states j k st (man.kind, s) in_order e pl.1
-    (numbers st.0 man.kind st.1 s kinds here)))
+    (equal_numbers st.0 man.kind st.1 s kinds here)))
 
 module _ (p : Board) (man : Man) (a b : ℕ) (target : Option ℕ) (h : IsStep p man a b)
     (g : GroupLine) (in_order : AreStates g.states) (ka kb : ℕ) (pa : IsPlace g man a ka)

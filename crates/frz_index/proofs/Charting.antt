@@ -182,8 +182,8 @@ pub record Words (states : List (Kind × ℕ)) (k : ℕ) (words : List ℕ) : Ty
   pub all : (j : ℕ) (s : Kind × ℕ) → j < k → slice_get states j ≡ Some s →
       has_square (slice_index words (number_of_kind s.0 - 1)) s.1 ≡ true
 
-zeros : (i : ℕ) → slice_index (replicate 6 0) i ≡ 0
-zeros i =
+zero_at_each : (i : ℕ) → slice_index (replicate 6 0) i ≡ 0
+zero_at_each i =
     elim (cases_lt i 6) [
       | inl less ↦ get_or-replicate 6 i 0 0 less
       | inr more ↦ get_or-eq_default (replicate 6 0) 0
@@ -195,7 +195,7 @@ words_start states = record {
   size = refl;
   only =
       λ i s l m h. let wrong : false ≡ true =
-      sym (has-zero s) ∙ ap (λ w. has_square w s) (sym (zeros i)) ∙ h in absurd cc;
+      sym (has-zero s) ∙ ap (λ w. has_square w s) (sym (zero_at_each i)) ∙ h in absurd cc;
   all = λ j s l e. absurd (omega arith);
 }
 

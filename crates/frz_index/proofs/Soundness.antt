@@ -36,9 +36,10 @@ own_colour White = refl
 own_colour Black = refl
 
 -- groups that have a state in common overlap
-common : (e g : GroupLine) (cell s : ℕ) → is_state cell s e ≡ true → is_state cell s g ≡ true →
+common_state_overlaps : (e g : GroupLine) (cell s : ℕ) → is_state cell s e ≡ true →
+    is_state cell s g ≡ true →
     (same_colour e.colour g.colour && shares e.states g.states) ≡ true
-common e g cell s he hg =
+common_state_overlaps e g cell s he hg =
     let a = any_found (λ (x : Kind × ℕ). cell_of_man (record { colour = e.colour; kind = x.0 })
     == cell && x.1 == s) e.states he in
     let b = any_found (λ (x : Kind × ℕ). cell_of_man (record { colour = g.colour; kind = x.0 })
@@ -70,7 +71,7 @@ alone_after e j earlier (g ∷ groups) is h cell s on =
     let off : is_state cell s g ≡ false = false_from_ne_true (is_state cell s g)
     (λ both.
     let yes = any_at (λ x. same_colour x.colour g.colour && shares x.states g.states) earlier j e is
-    (common e g cell s on both) in
+    (common_state_overlaps e g cell s on both) in
     let no = h.0.no_overlap in
     absurd cc) in
     ap (λ b. b || has_state groups cell s) off

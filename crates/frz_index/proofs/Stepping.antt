@@ -79,10 +79,10 @@ one_place f n j k lj lk ej ek one = heads (sym (single f n j lj ej one) ∙ sing
     heads e = cc
 
 -- where a test holds at one place alone
-only : (f : ℕ → Bool) (n k : ℕ) → k < n → f k ≡ true →
+one_place_alone : (f : ℕ → Bool) (n k : ℕ) → k < n → f k ≡ true →
     ((j : ℕ) → j < n → f j ≡ true → j ≡ k) → places_below f n ≡ k ∷ []
-only f zero k l e alone = absurd (omega arith)
-only f (suc n) k l e alone =
+one_place_alone f zero k l e alone = absurd (omega arith)
+one_place_alone f (suc n) k l e alone =
     elim (cases_eq k n) [
       | inl here ↦
           let on : f n ≡ true = ap f (sym here) ∙ e in
@@ -100,7 +100,7 @@ only f (suc n) k l e alone =
           (λ t. let same = alone n (omega arith) t in absurd (omega (arith, same, less))) in
           let is : places_below f (suc n) ≡ places_below f n =
           ap (λ b. cond b (n ∷ places_below f n) (places_below f n)) off in
-          is ∙ only f n k less e (λ j lj t. alone j (omega (arith, lj)) t)
+          is ∙ one_place_alone f n k less e (λ j lj t. alone j (omega (arith, lj)) t)
     ]
 
 -- a state stands at one place
@@ -304,7 +304,7 @@ module _ (p : Board) (man : Man) (a b : ℕ) (target : Option ℕ) (h : IsStep p
 
     after_is : IsWithinCount p g → places q g ≡ kb ∷ []
     after_is w =
-        only (λ k. stands q g.colour (slice_get g.states k)) (length g.states) kb
+        one_place_alone (λ k. stands q g.colour (slice_get g.states k)) (length g.states) kb
         (slice_get_within g.states kb (man.kind, b) pb.1) (stands_there g man q b kb pb at_to)
         (λ j l t. alone w j (slice_get g.states j) refl l t)
 

@@ -133,9 +133,9 @@ step_there p man taken a b size la lb n stood there = record {
   free = at_taken p taken b size lb there;
 }
 
-twice : (t u : Bool) (v x : ℕ) → cond t v (cond u 0 (cond t 0 x)) ≡ cond t v (cond u 0 x)
-twice true u v x = refl
-twice false u v x = refl
+same_test_twice : (t u : Bool) (v x : ℕ) → cond t v (cond u 0 (cond t 0 x)) ≡ cond t v (cond u 0 x)
+same_test_twice true u v x = refl
+same_test_twice false u v x = refl
 
 -- that is the step onto the taken man
 pub step_onto : (p : Board) (man : Man) (a b : ℕ) (target : Option ℕ) → length p.cells ≡ 64 →
@@ -158,7 +158,7 @@ step_onto p man a b target size la lb =
     ∙ ap (λ y. cond (s == b) v y) (set_at (slice_set p.cells b 0) a 0 s
     (omega (arith, long, size, la))
     ∙ ap (λ y. cond (s == a) 0 y) (set_at p.cells b 0 s (omega (arith, size, lb))))
-    ∙ twice (s == b) (s == a) v x
+    ∙ same_test_twice (s == b) (s == a) v x
     ∙ sym (set_at (slice_set p.cells a 0) b v s (omega (arith, long_a, size, lb))
     ∙ ap (λ y. cond (s == b) v y) (set_at p.cells a 0 s (omega (arith, size, la))))) in
     ap (λ (xs : List ℕ). let y : Board = record { cells = xs; turn = q.turn; ep = target } in y)

@@ -63,6 +63,7 @@ pub(crate) fn number_by(
 
 /// The number of the position after the man has gone to the empty square `to`, with this target
 /// after it. `None` unless `share` tells what he adds on both squares, by the same group.
+#[inline(always)]
 pub(crate) fn number_after_in(
     plan: &Plan,
     i: u32,

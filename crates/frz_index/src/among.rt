@@ -68,6 +68,7 @@ fn digit_adds(plan: &Plan, p: &Bitboards, k: usize) -> Option<u64>
 
 /// The number after the step, computed from the digit of the group that counts the man on both
 /// squares. `None` unless one group alone does.
+#[inline(never)]
 fn number_among(
     plan: &Plan,
     i: u32,
@@ -97,6 +98,7 @@ fn number_among(
 
 /// The number of the position after the man has gone to the empty square `to`, with this target
 /// after it. `None` unless one group alone counts him on both squares.
+#[inline(always)]
 pub(crate) fn number_after_step_in(
     plan: &Plan,
     i: u32,

@@ -218,6 +218,7 @@ impl Set {
     /// The number of the position after this man has gone to the empty square `to`, where the other
     /// side is to move and `target` is the en passant target. The answer is `Some` exactly where
     /// one group, the same for both squares, is the only one that has the man there as a state.
+    #[inline(always)]
     pub fn number_after_step(
         &self,
         i: u32,
@@ -241,6 +242,7 @@ impl Set {
     /// The number of the position after a legal move. The answer is `Some` exactly where the move
     /// is quiet (it takes nothing and promotes nothing, and a pawn goes one square), and one group
     /// alone counts its man on both squares.
+    #[inline(always)]
     pub fn number_after_move(&self, i: u32, p: &Bitboards, m: Move) -> Option<u32>
         requires number { HasNumber self.now i p.now }
         requires legal { is_legal p.now m ≡ true }

@@ -1,4 +1,4 @@
--- The words behind a command's name, where their number is right, and the position of a FEN.
+-- The words after a command's name, where their number is right, and the position of a FEN.
 use Rattle.std.specs.Prelude.{List, ℕ, Option, Some, None, Result, Ok, Err}
 use Rattle.frz_answer.specs.declared.words.Refusal.TheVariants.{Count}
 use Rattle.frz_board.specs.Boards.{Board}

@@ -39,6 +39,7 @@ fn table_status(fault: TableFault) -> Status
 }
 
 impl Refused {
+    /// The status with which a command ends that is refused so.
     pub fn status(self) -> Status
         ensures { result ≡ status_of self }
     {

@@ -1,4 +1,4 @@
-//! The words behind a command's name, where their number is right, and the position of a FEN.
+//! The words after a command's name, where their number is right, and the position of a FEN.
 ghost use Rattle.std.specs.Prelude.{◌≡◌, map, Ok, Err, IfOk, MatchResult};
 ghost use Rattle.std.specs.String.{string_bytes};
 ghost use Rattle.frz_answer.specs.Words.{one_word_of, two_words_of, three_words_of};
@@ -10,7 +10,7 @@ use frz_answer::{Refusal, one_word, three_words, two_words};
 use frz_board::Position;
 use frz_fen::read_fen;
 
-/// The word behind the command's name. Any other number of words is refused.
+/// The word after the command's name. Any other number of words is refused.
 pub fn take_one(words: &[String]) -> Result<&str, Refused>
     ensures { MatchResult result
         (λ word. counted (one_word_of (map string_bytes words.now)) ≡ Ok word.now)
@@ -22,7 +22,7 @@ pub fn take_one(words: &[String]) -> Result<&str, Refused>
     }
 }
 
-/// The two words behind the command's name. Any other number of words is refused.
+/// The two words after the command's name. Any other number of words is refused.
 pub fn take_two(words: &[String]) -> Result<(&str, &str), Refused>
     ensures { MatchResult result
         (λ both. counted (two_words_of (map string_bytes words.now))
@@ -35,7 +35,7 @@ pub fn take_two(words: &[String]) -> Result<(&str, &str), Refused>
     }
 }
 
-/// The three words behind the command's name. Any other number of words is refused.
+/// The three words after the command's name. Any other number of words is refused.
 pub fn take_three(words: &[String]) -> Result<(&str, &str, &str), Refused>
     ensures { MatchResult result
         (λ all. counted (three_words_of (map string_bytes words.now))

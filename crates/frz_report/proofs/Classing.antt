@@ -20,8 +20,8 @@ one_by_one : (c cell : ℕ) → cond (nat_lt c cell) 1 0 + cond (c == cell) 1 0 
     (nat_lt c (cell + 1)) 1 0
 one_by_one c cell = grind (arith, nat_tests)
 
-joined : (a b c x y z : ℕ) → a + b ≡ c → x + y ≡ z → a + x + (b + y) ≡ c + z
-joined a b c x y z h k = omega arith
+sums_added : (a b c x y z : ℕ) → a + b ≡ c → x + y ≡ z → a + x + (b + y) ≡ c + z
+sums_added a b c x y z h k = omega arith
 
 -- the men below a number, and those of it
 pub below_more : (cell : ℕ) (cells : List ℕ)
@@ -32,7 +32,7 @@ below_more cell (c ∷ cells) =
     (sum_by-cons (λ (x : ℕ). cond (nat_lt x cell) 1 0) c cells)
     ∙ ap (λ (n : ℕ). cond (nat_lt c cell) 1 0 + below cell cells + n)
     (sum_by-cons (λ (x : ℕ). cond (x == cell) 1 0) c cells)
-    ∙ joined (cond (nat_lt c cell) 1 0) (cond (c == cell) 1 0) (cond (nat_lt c (cell + 1)) 1 0)
+    ∙ sums_added (cond (nat_lt c cell) 1 0) (cond (c == cell) 1 0) (cond (nat_lt c (cell + 1)) 1 0)
     (below cell cells) (at cell cells) (below (cell + 1) cells) (one_by_one c cell)
     (below_more cell cells)
     ∙ sym (sum_by-cons (λ (x : ℕ). cond (nat_lt x (cell + 1)) 1 0) c cells)

@@ -14,11 +14,11 @@ use Rattle.frz_report.proofs.Entries.{census_more, times_looked_up}
 abbrev pub sum_of : List (Class × ℕ) → ℕ
 sum_of es = sum_by (λ e. e.1) es
 
-swapped : (s v old : ℕ) → v + s + old ≡ old + s + v
-swapped s v old = omega arith
+sum_swapped : (s v old : ℕ) → v + s + old ≡ old + s + v
+sum_swapped s v old = omega arith
 
-moved : (put old s first v : ℕ) → put + old ≡ s + v → first + put + old ≡ first + s + v
-moved put old s first v h = omega arith
+sum_moved : (put old s first v : ℕ) → put + old ≡ s + v → first + put + old ≡ first + s + v
+sum_moved put old s first v h = omega arith
 
 -- a value that is put takes the place of the old one
 sum_put : (es : List (Class × ℕ)) (x : Class) (v : ℕ)
@@ -35,11 +35,11 @@ sum_put (e ∷ es) x v =
         (cond b (Some e.1) (lookup (bytes_eq x) es)) 0 ≡ e.1 + sum_of es + v
     put_here_or_later true h =
         ap (λ (n : ℕ). n + e.1) (sum_by-cons (λ (y : Class × ℕ). y.1) (e.0, v) es)
-        ∙ swapped (sum_of es) v e.1
+        ∙ sum_swapped (sum_of es) v e.1
     put_here_or_later false h =
         ap (λ (n : ℕ). n + unwrap_or (lookup (bytes_eq x) es) 0)
         (sum_by-cons (λ (y : Class × ℕ). y.1) e (insert_entry bytes_eq es x v))
-        ∙ moved (sum_of (insert_entry bytes_eq es x v)) (unwrap_or (lookup (bytes_eq x) es) 0)
+        ∙ sum_moved (sum_of (insert_entry bytes_eq es x v)) (unwrap_or (lookup (bytes_eq x) es) 0)
         (sum_of es) e.1 v h
 
 sum_more : (cs : List Class) (x : Class) → sum_of (census (cs ++ x ∷ [])) ≡ sum_of (census cs) + 1

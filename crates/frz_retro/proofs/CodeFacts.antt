@@ -39,13 +39,14 @@ of_one false c h e = let a = odd_of c h in let b = even_of c e in omega (arith, 
 pub of_not : (w : Bool) (c : ℕ) → is_of w c ≡ true → is_of (not w) c ≡ false
 of_not w c h = false_from_ne_true (is_of (not w) c) (λ e. of_one w c h e)
 
-parity : (c : ℕ) → (c % 2 ≡ 0) ⊎ (c % 2 ≡ 1)
-parity c = elim (cases_eq (c % 2) 0) [ inl e ↦ inl e | inr n ↦ inr (omega (arith, n)) ]
+even_or_odd : (c : ℕ) → (c % 2 ≡ 0) ⊎ (c % 2 ≡ 1)
+even_or_odd c = elim (cases_eq (c % 2) 0) [ inl e ↦ inl e | inr n ↦ inr (omega (arith, n)) ]
 
 -- one of both
 pub of_some : (w : Bool) (c : ℕ) → 2 ≤ c → (is_of w c ≡ true) ⊎ (is_of (not w) c ≡ true)
-of_some true c h = elim (parity c) [ inl e ↦ inl (of_even c h e) | inr e ↦ inr (of_odd c h e) ]
-of_some false c h = elim (parity c) [ inl e ↦ inr (of_even c h e) | inr e ↦ inl (of_odd c h e) ]
+of_some true c h = elim (even_or_odd c) [ inl e ↦ inl (of_even c h e) | inr e ↦ inr (of_odd c h e) ]
+of_some false c h =
+    elim (even_or_odd c) [ inl e ↦ inr (of_even c h e) | inr e ↦ inl (of_odd c h e) ]
 
 pub of_other : (w : Bool) (c : ℕ) → 2 ≤ c → is_of w c ≡ false → is_of (not w) c ≡ true
 of_other w c h e =

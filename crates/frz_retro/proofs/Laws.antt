@@ -52,10 +52,10 @@ apart_places R (x ∷ xs) h = (
   apart_places R xs (λ k l y z a b r. let e = h (suc k) (suc l) y z a b r in omega (arith, e)),
 )
 
-short : (lags : ℕ → Type 0) (n : Next) → ((v : Value) → n ≡ Outside v → AreShort (Outside v)) →
+next_short : (lags : ℕ → Type 0) (n : Next) → ((v : Value) → n ≡ Outside v → AreShort (Outside v)) →
     AreShort n
-short lags (Inside q) h = tt
-short lags (Outside v) h = h v refl
+next_short lags (Inside q) h = tt
+next_short lags (Outside v) h = h v refl
 
 pub is_graph : {arena : Arena Step ℕ Value} {size : ℕ} → IsFinite arena size →
     HasDifferentArms arena → IsGraph (shape_of arena size)
@@ -64,7 +64,7 @@ is_graph {arena} f d = record {
   others = λ i a h. f.going i a (contains_in (arena.arms i) a h);
   apart = λ i. differ (arena.arms i) (λ q k l a b e g x y. d i k l q (a, e, x) (b, g, y));
   lags =
-      λ i a h. short (λ _. Unit {0}) a.next
+      λ i a h. next_short (λ _. Unit {0}) a.next
       (λ v e. f.lags i v a (contains_in (arena.arms i) a h) e);
 }
   where

@@ -3,7 +3,7 @@ pub mod Laws
 pub mod GameMoves
 pub mod Unrestricted
 pub mod Lesser
-pub mod Settled
+pub mod SettledIsLocal
 pub mod Counting
 pub mod StateFacts
 pub mod Choices

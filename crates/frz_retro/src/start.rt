@@ -62,6 +62,7 @@ pub fn after_code(own: bool, s: Start, code: u32) -> Start
     }
 }
 
+/// Adds an arm, which counts only if it is free where the side itself moves (`own`).
 pub fn after_arm(own: bool, side: Colour, s: Start, arm: &Arm) -> Start
     requires count { s.count < 2 ^ 31 }
     requires short { AreShort arm.now.next }

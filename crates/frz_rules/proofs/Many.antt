@@ -9,10 +9,10 @@ abbrev pub with_values : {A : Type 0} → List A → Result (List A) (List (List
 with_values xs (Ok ys) = Ok (xs ++ ys)
 with_values xs (Err e) = Err e
 
-joins : {A : Type 0} (xs : List A) (x : A) (r : Result (List A) (List (List ℕ)))
+values_join : {A : Type 0} (xs : List A) (x : A) (r : Result (List A) (List (List ℕ)))
     → with_values xs (r >>= λ ys. Ok (x ∷ ys)) ≡ with_values (xs ++ x ∷ []) r
-joins xs x (Ok ys) = ap Ok (sym (append_assoc xs (x ∷ []) ys))
-joins xs x (Err e) = refl
+values_join xs x (Ok ys) = ap Ok (sym (append_assoc xs (x ∷ []) ys))
+values_join xs x (Err e) = refl
 
 pub many_start : {A : Type 0} (r : Result (List A) (List (List ℕ))) → with_values [] r ≡ r
 many_start (Ok ys) = refl
@@ -23,7 +23,7 @@ pub many_next : {A : Type 0} (class : List ℕ → Option A) (xs : List A) (x : 
     (xs ++ x ∷ []) (each_of class ws)
 many_next class xs x w ws e =
     ap (λ o. with_values xs (more_of o w ws (each_of class ws))) (sym e)
-    ∙ joins xs x (each_of class ws)
+    ∙ values_join xs x (each_of class ws)
 
 pub many_stop : {A : Type 0} (class : List ℕ → Option A) (xs : List A) (w : List ℕ)
     (ws : List (List ℕ)) → None ≡ class w → with_values xs (each_of class (w ∷ ws)) ≡ Err (w ∷ ws)

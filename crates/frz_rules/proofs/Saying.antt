@@ -163,13 +163,13 @@ forbid_colour None c k f s t u end = cond_none (is (codes "from") f && is (codes
 forbid_colour (Some x) c k f s t u end = forbid_kind x (kind_of k) k f s t u end
 
 -- a line that is too short
-unfit : {A : Type 0} (f : Form) (ws : List (List ℕ)) (r : Result A (List (List ℕ))) →
+unfit_says_none : {A : Type 0} (f : Form) (ws : List (List ℕ)) (r : Result A (List (List ℕ))) →
     Agrees f ws r → fits f ws ≡ false → None ≡ ok_of r
-unfit f ws (Ok x) a e = absurd cc
-unfit f ws (Err rest) a e = refl
+unfit_says_none f ws (Ok x) a e = absurd cc
+unfit_says_none f ws (Err rest) a e = refl
 
 too_short : (ws : List (List ℕ)) → fits forbid_form ws ≡ false → None ≡ ok_of (forbid_words ws)
-too_short ws e = unfit forbid_form ws (forbid_words ws) (forbid_agrees ws) e
+too_short ws e = unfit_says_none forbid_form ws (forbid_words ws) (forbid_agrees ws) e
 
 pub forbid_said : (ws : List (List ℕ)) → forbid_of ws ≡ ok_of (forbid_words ws)
 unfolding forbid_of forbid_words
@@ -257,9 +257,9 @@ at_if k w ws e =
     ap (λ b. exit_from (k b) (some_of cond_of (after_first is_if (w ∷ ws)))) (before_yes w ws e)
     ∙ ap (λ a. exit_from (k []) (some_of cond_of a)) (after_yes w ws e)
 
-past : (k : List (List ℕ) → Option Value) (w : List ℕ) (ws : List (List ℕ)) → is_if w ≡ false →
-    said_by k (w ∷ ws) ≡ said_by (λ others. k (w ∷ others)) ws
-past k w ws e =
+said_past_word : (k : List (List ℕ) → Option Value) (w : List ℕ) (ws : List (List ℕ)) →
+    is_if w ≡ false → said_by k (w ∷ ws) ≡ said_by (λ others. k (w ∷ others)) ws
+said_past_word k w ws e =
     ap (λ b. exit_from (k b) (some_of cond_of (after_first is_if (w ∷ ws)))) (before_no w ws e)
     ∙ ap (λ a. exit_from (k (w ∷ before_first is_if ws)) (some_of cond_of a)) (after_no w ws e)
 
@@ -278,7 +278,7 @@ if_case : (k : List (List ℕ) → Option Value) (v : Value) (b : Bool) (w : Lis
 if_case k v true w ws e some none =
     at_if k w ws e ∙ ap (λ o. exit_from o (some_of cond_of ws)) some ∙ conds_said v ws
 if_case k v false w ws e some none =
-    past k w ws e
+    said_past_word k w ws e
     ∙ nothing_by (k (w ∷ before_first is_if ws)) (some_of cond_of (after_first is_if ws))
     (none w (before_first is_if ws))
 
@@ -326,7 +326,8 @@ wins_case c w v true n ws e s t =
     at_if (λ others. value_of (w ∷ v ∷ others)) n ws e
     ∙ ap (λ o. exit_from o (some_of cond_of ws)) (won_if c w v s t) ∙ conds_said (wins c) ws
 wins_case c w v false n ws e s t =
-    past (λ others. value_of (w ∷ v ∷ others)) n ws e ∙ lag_case c w v n ws (lag_of n) refl s t
+    said_past_word (λ others. value_of (w ∷ v ∷ others)) n ws e
+    ∙ lag_case c w v n ws (lag_of n) refl s t
 
 wins_said : (c : Colour) (w v : List ℕ) → colour_of w ≡ Some c → is (codes "wins") v ≡ true →
     (ws : List (List ℕ)) → said_by (λ others. value_of (w ∷ v ∷ others)) ws ≡ said (after_wins c ws)
@@ -361,15 +362,15 @@ plain_none w d u =
     ap (λ b. cond b (Some Draw) (cond (is (codes "unknown") w) (Some Unknown) None)) d
     ∙ ap (λ b. cond b (Some Unknown) None) u
 
-stray : (c : Colour) (w v : List ℕ) (b : Bool) (vs : List (List ℕ)) → is_if v ≡ b →
+stray_says_none : (c : Colour) (w v : List ℕ) (b : Bool) (vs : List (List ℕ)) → is_if v ≡ b →
     colour_of w ≡ Some c → is (codes "draw") w ≡ false → is (codes "unknown") w ≡ false →
     is (codes "wins") v ≡ false → is (codes "holds") v ≡ false →
     said_by (λ others. value_of (w ∷ others)) (v ∷ vs) ≡ None
-stray c w v true vs e s d u t h =
+stray_says_none c w v true vs e s d u t h =
     at_if (λ others. value_of (w ∷ others)) v vs e
     ∙ nothing_by (value_of (w ∷ [])) (some_of cond_of vs) (plain_none w d u)
-stray c w v false vs e s d u t h =
-    past (λ others. value_of (w ∷ others)) v vs e
+stray_says_none c w v false vs e s d u t h =
+    said_past_word (λ others. value_of (w ∷ others)) v vs e
     ∙ nothing_by (value_of (w ∷ v ∷ before_first is_if vs)) (some_of cond_of (after_first is_if vs))
     (no_verb c w v s t h (before_first is_if vs))
 
@@ -379,13 +380,15 @@ verb_case : (c : Colour) (w v : List ℕ) (a b : Bool) (vs : List (List ℕ)) �
     said_by (λ others. value_of (w ∷ others)) (v ∷ vs)
     ≡ said (cond a (after_wins c vs) (cond b (then_if (holds c) vs) (Err (v ∷ vs))))
 verb_case c w v true b vs t h s d u =
-    past (λ others. value_of (w ∷ others)) v vs (ap is_if (equal_words v (codes "wins") t))
+    said_past_word (λ others. value_of (w ∷ others)) v vs
+    (ap is_if (equal_words v (codes "wins") t))
     ∙ wins_said c w v s t vs
 verb_case c w v false true vs t h s d u =
-    past (λ others. value_of (w ∷ others)) v vs (ap is_if (equal_words v (codes "holds") h))
+    said_past_word (λ others. value_of (w ∷ others)) v vs
+    (ap is_if (equal_words v (codes "holds") h))
     ∙ if_said (λ others. value_of (w ∷ v ∷ others)) (holds c) (held c w v s t h) (held_more w v t)
     vs
-verb_case c w v false false vs t h s d u = stray c w v (is_if v) vs refl s d u t h
+verb_case c w v false false vs t h s d u = stray_says_none c w v (is_if v) vs refl s d u t h
 
 verb_said : (c : Colour) (w : List ℕ) → colour_of w ≡ Some c → is (codes "draw") w ≡ false →
     is (codes "unknown") w ≡ false → (ws : List (List ℕ)) →
@@ -399,7 +402,7 @@ no_side : (w : List ℕ) (b : Bool) (ws : List (List ℕ)) → is_if w ≡ b →
     is (codes "unknown") w ≡ false → colour_of w ≡ None → said_by value_of (w ∷ ws) ≡ None
 no_side w true ws e d u s = at_if value_of w ws e ∙ no_value (some_of cond_of ws)
 no_side w false ws e d u s =
-    past value_of w ws e
+    said_past_word value_of w ws e
     ∙ nothing_by (value_of (w ∷ before_first is_if ws)) (some_of cond_of (after_first is_if ws))
     (not_side w (before_first is_if ws) d u s)
 
@@ -414,14 +417,14 @@ side_case : (w : List ℕ) (ws : List (List ℕ)) (o : Option Colour) → colour
     → said_by value_of (w ∷ ws) ≡ said (taken o w ws >>= λ c. after_colour c.0 c.1)
 side_case w ws None s d u = no_side w (is_if w) ws refl d u s
 side_case w ws (Some c) s d u =
-    past value_of w ws (colour_not_if w c (is_if w) refl s) ∙ verb_said c w s d u ws
+    said_past_word value_of w ws (colour_not_if w c (is_if w) refl s) ∙ verb_said c w s d u ws
 
 -- `draw` or `unknown`
 plain_said : (v : Value) (w : List ℕ) (ws : List (List ℕ)) → is_if w ≡ false →
     value_of (w ∷ []) ≡ Some v → colour_of w ≡ None →
     said_by value_of (w ∷ ws) ≡ said (then_if v ws)
 plain_said v w ws e some none =
-    past value_of w ws e
+    said_past_word value_of w ws e
     ∙ if_said (λ others. value_of (w ∷ others)) v some (λ x xs. not_plain w x xs none) ws
 
 first_case : (w : List ℕ) (ws : List (List ℕ)) (a b : Bool) → is (codes "draw") w ≡ a

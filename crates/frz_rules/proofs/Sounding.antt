@@ -37,17 +37,17 @@ use Rattle.frz_sets.specs.Sound.{AreIncreasingFrom, AreStates, AreSoundAfter, Ha
 state_back : (n : ℕ) → n < 384 → state_number (state_at n) ≡ n
 state_back n h = let e = kind-number (n / 64) (omega arith) in omega (arith, e)
 
-later : (m n : ℕ) (states : List (Kind × ℕ)) → m ≤ n → AreIncreasingFrom n states →
+increasing_from_less : (m n : ℕ) (states : List (Kind × ℕ)) → m ≤ n → AreIncreasingFrom n states →
     AreIncreasingFrom m states
-later m n [] l h = tt
-later m n (s ∷ states) l h = let k = h.0 in (omega arith, h.1, h.2)
+increasing_from_less m n [] l h = tt
+increasing_from_less m n (s ∷ states) l h = let k = h.0 in (omega arith, h.1, h.2)
 
 one_more : (b : Bool) (n : ℕ) (states : List (Kind × ℕ)) → n < 384 →
     AreIncreasingFrom (n + 1) states → AreIncreasingFrom n (cond b (state_at n ∷ states) states)
 one_more true n states l h =
     let e = state_back n l in
     (omega (arith, e), omega arith, subst (λ m. AreIncreasingFrom (m + 1) states) (sym e) h)
-one_more false n states l h = later n (n + 1) states (omega arith) h
+one_more false n states l h = increasing_from_less n (n + 1) states (omega arith) h
 
 increasing_from : (p : Kind × ℕ → Bool) (a n : ℕ) → a + n ≤ 384 →
     AreIncreasingFrom a (filter p (map state_at (range_with_len a n)))

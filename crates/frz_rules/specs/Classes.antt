@@ -5,7 +5,7 @@ use Rattle.frz_board.specs.declared.man.Colour.{Colour}
 use Rattle.frz_board.specs.declared.man.Colour.TheVariants.{White, Black}
 use Rattle.frz_board.specs.declared.man.Kind.{Kind}
 use Rattle.frz_board.specs.Men.{kind_of_letter}
-use Rattle.frz_sets.specs.declared.limits.TheConstants.{MOST_MEN, MOST_PLIES}
+use Rattle.frz_sets.specs.declared.limits.TheConstants.{MOST_MEN, MOST_LAG}
 use Rattle.frz_words.specs.Parts.{split}
 use Rattle.frz_words.specs.Numbers.{number_of}
 use Rattle.frz_words.specs.Squares.{squares_of}
@@ -63,4 +63,4 @@ place_of word = kind_and_squares (split is_colon word)
 
 -- a number of plies, at most 1,000
 abbrev pub lag_of : List ℕ → Option ℕ
-lag_of word = number_of word MOST_PLIES
+lag_of word = number_of word MOST_LAG

@@ -8,10 +8,11 @@ use crate::slots::{colour_at, conds_at, count_at, kind_at, literal_at, places_at
 use crate::stop::{Left, Stop};
 use crate::words::colour;
 use frz_board::{Colour, Kind};
-use frz_sets::{Cond, Forbid, MOST_PLIES, Only, Value};
+use frz_sets::{Cond, Forbid, MOST_LAG, Only, Value};
 use frz_words::{SquareSet, is_word, next_word, read_number};
 use std::alloc::Global;
 
+/// Reads what follows the word `group`.
 #[tactic(auto, unfolding(crate::specs::Reading::group_words))]
 pub fn group_parts(
     alloc: Global,
@@ -47,6 +48,7 @@ fn only(line: &[u8]) -> Result<Only, Left<'_>>
     }
 }
 
+/// Reads what follows the word `forbid`.
 #[tactic(auto, unfolding(crate::specs::Reading::forbid_words))]
 pub fn forbid_parts(line: &[u8]) -> Result<Forbid, Left<'_>>
     ensures { Leaves (λ x. x) result (forbid_words (words line.now)) }
@@ -116,7 +118,7 @@ fn wins_at(c: Colour, line: &[u8]) -> Result<(Value, &[u8]), Left<'_>>
     if is_word(w, b"if") {
         return Ok((wins(c), rest));
     }
-    match read_number(w, MOST_PLIES) {
+    match read_number(w, MOST_LAG) {
         None => Err(Left(line)),
         Some(n) => value_if(wins_in(c, n), rest),
     }
@@ -156,6 +158,7 @@ fn value(line: &[u8]) -> Result<(Value, &[u8]), Left<'_>>
     }
 }
 
+/// Reads what follows the word `exit`.
 #[tactic(auto, unfolding(crate::specs::Reading::exit_words))]
 pub fn exit_parts(alloc: Global, line: &[u8]) -> Result<(Value, Vec<Cond>), Stop<'_>>
     ensures { Gives (λ x. (x.0, x.1.items)) result (exit_words (words line.now)) }

@@ -14,6 +14,7 @@ use frz_sets::Cond;
 use frz_words::{SquareSet, is_word, next_word, read_squares};
 use std::alloc::Global;
 
+/// The colour that the line begins with, and what follows it; else the whole line.
 pub fn colour_at(line: &[u8]) -> Result<(Colour, &[u8]), Left<'_>>
     ensures { Leaves (λ x. (x.0, words x.1.now)) result (slot colour_of (words line.now)) }
 {
@@ -22,6 +23,7 @@ pub fn colour_at(line: &[u8]) -> Result<(Colour, &[u8]), Left<'_>>
     Ok((colour, rest))
 }
 
+/// The kind that the line begins with, and what follows it; else the whole line.
 pub fn kind_at(line: &[u8]) -> Result<(Kind, &[u8]), Left<'_>>
     ensures { Leaves (λ x. (x.0, words x.1.now)) result (slot kind_of (words line.now)) }
 {
@@ -30,6 +32,7 @@ pub fn kind_at(line: &[u8]) -> Result<(Kind, &[u8]), Left<'_>>
     Ok((kind, rest))
 }
 
+/// The count that the line begins with, and what follows it; else the whole line.
 pub fn count_at(line: &[u8]) -> Result<((u8, u8), &[u8]), Left<'_>>
     ensures { Leaves (λ x. (x.0, words x.1.now)) result (slot count_of (words line.now)) }
 {
@@ -38,6 +41,7 @@ pub fn count_at(line: &[u8]) -> Result<((u8, u8), &[u8]), Left<'_>>
     Ok((count, rest))
 }
 
+/// The squares that the line begins with, and what follows them; else the whole line.
 pub fn squares_at(line: &[u8]) -> Result<(SquareSet, &[u8]), Left<'_>>
     ensures { Leaves (λ x. (x.0, words x.1.now)) result (slot squares_of (words line.now)) }
 {
@@ -46,6 +50,7 @@ pub fn squares_at(line: &[u8]) -> Result<(SquareSet, &[u8]), Left<'_>>
     Ok((set, rest))
 }
 
+/// What follows this very word at the front of the line; else the whole line.
 pub fn literal_at<'a>(text: &[u8], line: &'a [u8]) -> Result<&'a [u8], Left<'a>>
     ensures { Leaves (λ x. words x.now) result (literal text.now (words line.now)) }
 {

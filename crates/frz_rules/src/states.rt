@@ -71,18 +71,21 @@ fn is_end_pawn(s: &(Kind, Square)) -> bool
     is_pawn(s.0) && (s.1.rank() == 0 || s.1.rank() == 7)
 }
 
+/// Is a king among the states?
 pub fn has_king(states: &[(Kind, Square)]) -> bool
     ensures { result ≡ list_any is_king_state states.now }
 {
     states.iter().any(|s| is_king(s))
 }
 
+/// Is another man than a king among the states?
 pub fn has_other_than_king(states: &[(Kind, Square)]) -> bool
     ensures { result ≡ list_any (λ s. not (is_king_state s)) states.now }
 {
     states.iter().any(|s| !is_king(s))
 }
 
+/// Is a pawn on rank 1 or 8 among the states?
 pub fn has_end_pawn(states: &[(Kind, Square)]) -> bool
     ensures { result ≡ list_any is_end_pawn_state states.now }
 {

@@ -74,6 +74,7 @@ pub fn range(w: &[u8]) -> Option<(u8, u8)>
     }
 }
 
+/// The square of a word of two bytes, as `e4`.
 pub fn square(w: &[u8]) -> Option<Square>
     ensures { result ≡ square_word w.now }
 {

@@ -33,8 +33,8 @@ of_other : (c : Colour) (o : Option Man) → o ≢ None → is_man_of c o ≡ fa
 of_other c None n h = absurd (n refl)
 of_other c (Some x) n h = by_colour c x.colour h
 
-there : (cell : ℕ) → cell < 13 → cell ≢ 0 → man_of_cell cell ≢ None
-there cell l n e = grind (arith, nat_tests)
+cell_has_man : (cell : ℕ) → cell < 13 → cell ≢ 0 → man_of_cell cell ≢ None
+cell_has_man cell l n e = grind (arith, nat_tests)
 
 module _ (p : Board) (m : Step) (v : IsValid p) (step : IsStep m) (f : Move p m) where
   -- the man on the destination leaves the board
@@ -46,7 +46,7 @@ module _ (p : Board) (m : Step) (v : IsValid p) (step : IsStep m) (f : Move p m)
         square = m.to;
         on_board = step.to;
         before = of_other p.turn (man_on p m.to)
-            (there (slice_index p.cells m.to)
+            (cell_has_man (slice_index p.cells m.to)
             (v.fits.men m.to 0 (let size = v.fits.size in let l = step.to in omega arith)) cell)
             f.free;
         after = ap (λ x. is_man_of (other_of p.turn) (man_of_cell x))

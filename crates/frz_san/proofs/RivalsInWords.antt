@@ -38,8 +38,8 @@ rival_of p m n w h =
       from = not_same n.from m.from parts.1;
     }
 
-passes : (p : Board) (m n : Step) → Rival p m n → is_rival p m n ≡ true
-passes p m n r =
+rival_passes : (p : Board) (m n : Step) → Rival p m n → is_rival p m n ≡ true
+rival_passes p m n r =
     let f = facts p n r.legal in
     rivals p m n (same_cell p n.from m.from f.man f.man f.on (sym r.man ∙ f.on) refl) r.to r.from
 
@@ -47,7 +47,7 @@ pub any_in_words : (p : Board) (m : Step) → (has_rival p m ≡ true) ↔ ((n :
 unfolding has_rival
 any_in_words p m = (
   λ h. let f = member (is_rival p m) (legal_moves_of p) h in (f.0, rival_of p m f.0 f.1 f.2),
-  λ w. some_rival p m w.0 (listed p w.0 w.1.step w.1.legal) (passes p m w.0 w.1),
+  λ w. some_rival p m w.0 (listed p w.0 w.1.step w.1.legal) (rival_passes p m w.0 w.1),
 )
 
 -- the test of a line, a file or a rank, passes exactly where a rival starts on it
@@ -60,7 +60,7 @@ on_line line p m = (
       (legal_moves_of p) h in
       let parts = and_parts (is_rival p m f.0) (line f.0.from == line m.from) f.2 in
       (f.0, rival_of p m f.0 f.1 parts.0, eqb-true (line f.0.from) (line m.from) parts.1),
-  λ w. rival_on line p m w.0 (listed p w.0 w.1.step w.1.legal) (passes p m w.0 w.1) w.2,
+  λ w. rival_on line p m w.0 (listed p w.0 w.1.step w.1.legal) (rival_passes p m w.0 w.1) w.2,
 )
 
 pub file_in_words : (p : Board) (m : Step) →

@@ -80,29 +80,29 @@ pub way_of : (p : Board) (m : Step) → (f : Move p m) → f.man.kind ≡ Pawn �
 way_of p m f k =
     way p f.man.colour m.from m.to (sym (ap (λ x. goes p f.man.colour x m.from m.to) k) ∙ f.way)
 
-taking : (e t k : Bool) → k ≡ true → (e ≡ false) ⊎ (t ≡ true) → (not e || (k && t)) ≡ true
-taking false t k h w = refl
-taking true t k h (inl e) = cc
-taking true t k h (inr e) = rw (h, e)
+is_a_capture : (e t k : Bool) → k ≡ true → (e ≡ false) ⊎ (t ≡ true) → (not e || (k && t)) ≡ true
+is_a_capture false t k h w = refl
+is_a_capture true t k h (inl e) = cc
+is_a_capture true t k h (inr e) = rw (h, e)
 
-keeping : (e t k : Bool) → e ≡ true → t ≡ false → (not e || (k && t)) ≡ false
-keeping e t true h w = rw (h, w)
-keeping e t false h w = rw h
+not_taken : (e t k : Bool) → e ≡ true → t ≡ false → (not e || (k && t)) ≡ false
+not_taken e t true h w = rw (h, w)
+not_taken e t false h w = rw h
 
 by_way : (p : Board) (man : Man) (m : Step) → man.kind ≡ Pawn → Way p man.colour m.from m.to →
     is_capture p man m ≡ not (file_of m.from == file_of m.to)
 by_way p man m k (diagonal apart forward taken) =
     let differ : file_of m.from ≢ file_of m.to = omega arith in
-    taking (is_empty p m.to) (takes_in_passing p man.colour m.from m.to) (is_pawn man.kind)
+    is_a_capture (is_empty p m.to) (takes_in_passing p man.colour m.from m.to) (is_pawn man.kind)
     (ap is_pawn k) taken
     ∙ elim (eqb_tells (file_of m.from) (file_of m.to))
     [ inl w ↦ absurd (differ w.1) | inr w ↦ sym (ap not w.0) ]
 by_way p man m k (straight apart forward empty) =
-    keeping (is_empty p m.to) (takes_in_passing p man.colour m.from m.to) (is_pawn man.kind) empty
+    not_taken (is_empty p m.to) (takes_in_passing p man.colour m.from m.to) (is_pawn man.kind) empty
     (straight_no_taking p man.colour m.from m.to apart)
     ∙ sym (ap not (eq-eqb (file_of m.from) (file_of m.to) (omega arith)))
 by_way p man m k (double apart forward empty between) =
-    keeping (is_empty p m.to) (takes_in_passing p man.colour m.from m.to) (is_pawn man.kind) empty
+    not_taken (is_empty p m.to) (takes_in_passing p man.colour m.from m.to) (is_pawn man.kind) empty
     (straight_no_taking p man.colour m.from m.to apart)
     ∙ sym (ap not (eq-eqb (file_of m.from) (file_of m.to) (omega arith)))
 

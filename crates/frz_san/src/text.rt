@@ -9,6 +9,7 @@ use frz_board::Square;
 /// The text of a move, of at most seven bytes.
 pub type San = ArrayString<8>;
 
+/// Appends a byte.
 pub fn add(text: &mut San, byte: u8)
     requires ascii { byte < 128 }
     requires room { array_string_len text.old < 8 }
@@ -18,6 +19,7 @@ pub fn add(text: &mut San, byte: u8)
     text.push(byte as char);
 }
 
+/// Appends the letter of the file and the digit of the rank.
 pub fn add_square(text: &mut San, s: Square)
     requires { array_string_len text.old ≤ 6 }
     ensures bytes { text.new.bytes ≡ text.old.bytes ++ square_text s }

@@ -97,14 +97,14 @@ pub times_start : (groups : List GroupLine) →
 unfolding times_from
 times_start groups = refl
 
-regroup : (t r p : ℕ) → t * r * p ≡ r * (t * p)
-regroup t r p = grind arith
+product_regrouped : (t r p : ℕ) → t * r * p ≡ r * (t * p)
+product_regrouped t r p = grind arith
 
 two_held : (t r p : ℕ) → held (min (t * held r) (2 ^ 64 - 1) * p) ≡ held (t * (r * p))
 unfolding held
 two_held t r p =
-    held_times (t * held r) p ∙ ap held (regroup t (held r) p) ∙ held_times r (t * p)
-    ∙ ap held (sym (regroup t r p) ∙ grind arith)
+    held_times (t * held r) p ∙ ap held (product_regrouped t (held r) p) ∙ held_times r (t * p)
+    ∙ ap held (sym (product_regrouped t r p) ∙ grind arith)
 
 pub times_more : (t r : ℕ) (groups : List GroupLine) (i : ℕ) (g : GroupLine) → i < length groups →
     get_or groups i g ≡ g → r ≡ capped (radix_of g) →

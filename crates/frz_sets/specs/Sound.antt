@@ -5,7 +5,7 @@ use Rattle.frz_board.specs.declared.man.Colour.TheVariants.{White, Black}
 use Rattle.frz_board.specs.declared.man.Kind.{Kind}
 use Rattle.frz_sets.specs.declared.exit.Value.{Value}
 use Rattle.frz_sets.specs.declared.exit.Value.TheVariants.{WhiteWinsIn, BlackWinsIn}
-use Rattle.frz_sets.specs.declared.limits.TheConstants.{MOST_CONDS, MOST_EXITS, MOST_FORBIDS, MOST_GROUPS, MOST_MEN, MOST_NUMBERS, MOST_PLIES, MOST_STATES}
+use Rattle.frz_sets.specs.declared.limits.TheConstants.{MOST_CONDS, MOST_EXITS, MOST_FORBIDS, MOST_GROUPS, MOST_MEN, MOST_NUMBERS, MOST_LAG, MOST_STATES}
 use Rattle.frz_sets.specs.Views.{GroupLine, ExitLine, RuleLines}
 use Rattle.frz_sets.specs.Groups.{state_number, is_end_pawn, is_bad_count, is_bad_king, has_king_group, overlaps, most_men_of}
 use Rattle.frz_sets.specs.Sets.{size_of}
@@ -48,8 +48,8 @@ AreSoundAfter earlier (g ∷ groups) =
     IsSoundBehind earlier g × AreSoundAfter (earlier ++ g ∷ []) groups
 
 abbrev pub HasFewPlies : Value → Type 0
-HasFewPlies (WhiteWinsIn n) = n ≤ MOST_PLIES
-HasFewPlies (BlackWinsIn n) = n ≤ MOST_PLIES
+HasFewPlies (WhiteWinsIn n) = n ≤ MOST_LAG
+HasFewPlies (BlackWinsIn n) = n ≤ MOST_LAG
 HasFewPlies _ = Unit {0}
 
 pub record IsSoundExit (e : ExitLine) : Type 0 where

@@ -16,7 +16,7 @@ pub use forbid::{Forbid, Only};
 pub use group::Group;
 pub use having::has_state;
 pub use limits::{
-    MOST_CONDS, MOST_EXITS, MOST_FORBIDS, MOST_GROUPS, MOST_MEN, MOST_NUMBERS, MOST_PLIES,
+    MOST_CONDS, MOST_EXITS, MOST_FORBIDS, MOST_GROUPS, MOST_LAG, MOST_MEN, MOST_NUMBERS,
     MOST_STATES,
 };
 pub use rules::Rules;

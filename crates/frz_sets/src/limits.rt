@@ -19,7 +19,7 @@ pub const MOST_MEN: u32 = 16;
 pub const MOST_STATES: usize = 384;
 
 /// The most plies that the value of an exit line names.
-pub const MOST_PLIES: u32 = 1000;
+pub const MOST_LAG: u32 = 1000;
 
 /// The most numbers of a set: 2^27.
 pub const MOST_NUMBERS: u32 = 134_217_728;

@@ -25,9 +25,9 @@ pub bits_below-small : (f : ℕ → Bool) (n : ℕ) → bits_below f n < 2 ^ n
 bits_below-small f zero = omega arith
 bits_below-small f (suc n) = with_bit (f n) (bits_below f n) n (bits_below-small f n)
 
-shown : (x : Bool) (r n : ℕ) → r + cond x (2 ^ n) 0 ≡ cond x 1 0 * 2 ^ n + r
-shown true r n = omega arith
-shown false r n = omega arith
+high_bit_first : (x : Bool) (r n : ℕ) → r + cond x (2 ^ n) 0 ≡ cond x 1 0 * 2 ^ n + r
+high_bit_first true r n = omega arith
+high_bit_first false r n = omega arith
 
 top : (x : Bool) (r n : ℕ) → r < 2 ^ n → bit_at (cond x 1 0 * 2 ^ n + r) n ≡ cond x 1 0
 top true r n h =
@@ -41,11 +41,11 @@ bit_below f zero k h = absurd (omega arith)
 bit_below f (suc n) k h =
     elim (cases_eq k n) [
       | inl e ↦
-          ap (λ w. bit_at w k) (shown (f n) (bits_below f n) n)
+          ap (λ w. bit_at w k) (high_bit_first (f n) (bits_below f n) n)
           ∙ ap (bit_at (cond (f n) 1 0 * 2 ^ n + bits_below f n)) e
           ∙ top (f n) (bits_below f n) n (bits_below-small f n) ∙ ap (λ j. cond (f j) 1 0) (sym e)
       | inr e ↦
-          ap (λ w. bit_at w k) (shown (f n) (bits_below f n) n)
+          ap (λ w. bit_at w k) (high_bit_first (f n) (bits_below f n) n)
           ∙ bit_at_cat_low (cond (f n) 1 0) n (bits_below f n) k (omega arith)
           ∙ bit_below f n k (omega arith)
     ]

@@ -21,12 +21,14 @@ impl Model for Count {
 }
 
 impl Count {
+    /// A count of 0.
     pub fn new() -> Count
         ensures { result ≡ 0 }
     {
         Count { value: 0 }
     }
 
+    /// The count.
     pub fn get(&self) -> u64
         ensures { result ≡ self.now }
     {
@@ -40,6 +42,7 @@ impl Count {
         self.value.saturating_add(1)
     }
 
+    /// Adds to the count, which stops at 2^64 - 1.
     pub fn add(&mut self, amount: u64)
         ensures sum { self.new ≡ min (self.old + amount) (2 ^ 64 - 1) }
         ensures grows { self.old ≤ self.new }

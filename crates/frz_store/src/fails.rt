@@ -54,6 +54,7 @@ impl Model for FailPlan {
 }
 
 impl FailPlan {
+    /// A plan before the first call.
     pub fn new(fails: Vec<Fail>) -> FailPlan
         ensures { result ≡ new_plan fails.items }
     {

@@ -18,6 +18,7 @@ pub struct MemSource {
 }
 
 impl MemSource {
+    /// A source of these bytes. The reads that `fails` names on `Call` will fail.
     pub fn new(bytes: Vec<u8>, fails: Vec<Fail>) -> MemSource
         ensures left { ⟦<MemSource as Source>⟧.left result ≡ Some bytes.items }
         ensures faults { ⟦<MemSource as Source>⟧.faults result ≡ 0 }

@@ -41,6 +41,7 @@ pub trait Store {
     /// The name of the file that was created last.
     ghost last: { Self → Option (List ℕ) };
 
+    /// A count that each call that answers `Failed` raises, up to 2^64 - 1.
     ghost faults: { Self → ℕ };
 
     /// How often `size` or `read` needed memory for the store itself and got none.
@@ -134,9 +135,10 @@ pub trait Store {
 
 /// A stream of bytes to read.
 pub trait Source {
-    /// The bytes that no read has taken.
+    /// The bytes that no read has taken, or `None` if the source does not tell.
     ghost left: { Self → Option (List ℕ) };
 
+    /// A count that each failed read raises, up to 2^64 - 1.
     ghost faults: { Self → ℕ };
 
     /// Reads bytes into the front of the slice, which must not be empty, and answers how many; 0 is
@@ -152,9 +154,10 @@ pub trait Source {
 
 /// A stream to write bytes to.
 pub trait Sink {
-    /// The bytes taken so far.
+    /// The bytes taken so far, or `None` if the sink does not tell.
     ghost taken: { Self → Option (List ℕ) };
 
+    /// A count that each failed write raises, up to 2^64 - 1.
     ghost faults: { Self → ℕ };
 
     /// Takes the whole piece, or fails and takes a prefix of it, which may be empty.

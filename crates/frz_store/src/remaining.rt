@@ -22,12 +22,14 @@ impl Model for Remaining {
 }
 
 impl Remaining {
+    /// These bytes, of which none is taken.
     pub fn new(bytes: Vec<u8>) -> Remaining
         ensures { result ≡ bytes.items }
     {
         Remaining { bytes, at: 0 }
     }
 
+    /// The bytes that are left.
     pub fn as_slice(&self) -> &[u8]
         ensures { result.now ≡ self.now }
     {

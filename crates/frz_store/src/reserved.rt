@@ -16,6 +16,7 @@ pub struct Reserved {
 }
 
 impl Reserved {
+    /// No bytes, and room for so many. The only error is want of memory.
     pub fn with_room(alloc: Global, room: usize) -> Result<Reserved, AllocError>
         ensures bytes { IfOk result (λ made. made.bytes.items ≡ []) }
         ensures room { IfOk result (λ made. made.room ≡ room) }
@@ -24,6 +25,7 @@ impl Reserved {
         Ok(Reserved { bytes, room })
     }
 
+    /// Appends a piece, which must fit in the room.
     pub fn append(&mut self, piece: &[u8])
         requires { length piece.now ≤ self.old.room }
         ensures bytes { self.new.bytes.items ≡ self.old.bytes.items ++ piece.now }

@@ -36,6 +36,7 @@ pub struct Shelf {
 }
 
 impl Shelf {
+    /// A shelf without files.
     pub fn new(alloc: Global) -> Shelf
         ensures files { files_of result ≡ no_files }
         ensures last { last_of result ≡ None }
@@ -47,6 +48,7 @@ impl Shelf {
         }
     }
 
+    /// The bytes of the file, or `None` if no file has this name.
     pub fn file(&self, name: &str) -> Option<&[u8]>
         ensures { option_copied result ≡ files_of self.now name.now }
     {

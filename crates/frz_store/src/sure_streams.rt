@@ -11,6 +11,7 @@ pub struct SureSource {
 }
 
 impl SureSource {
+    /// A source of these bytes.
     pub fn new(bytes: Vec<u8>) -> SureSource
         ensures { ⟦<SureSource as Source>⟧.left result ≡ Some bytes.items }
     {
@@ -42,6 +43,7 @@ impl Source for SureSource {
 pub struct SureSink;
 
 impl SureSink {
+    /// A sink that has taken nothing yet.
     pub fn new() -> SureSink
         ensures { ⟦<SureSink as Sink>⟧.taken result ≡ None }
     {

@@ -45,11 +45,11 @@ earlier_failure : (n c : ℕ) → c ≤ 3 + 2 * n → (m : ℕ) → IsFailureWit
 earlier_failure n c l m f = (f.0, l)
 
 -- the codes after a ply that changed nothing, with no lag to come, tell all
-reached : {M V : Type 0} (arena : Arena M ℕ V) (side : Colour) (n : ℕ) → LagsWithin arena side n →
+tells_all : {M V : Type 0} (arena : Arena M ℕ V) (side : Colour) (n : ℕ) → LagsWithin arena side n →
     (codes : List ℕ) →
     AreTold arena side (n + 1) codes → AreTold arena side (n + 2) codes
     → AreCodes arena side (λ i. slice_index codes i)
-reached arena side n lags codes before after =
+tells_all arena side n lags codes before after =
     let still : (p : ℕ) → WinsWithin arena side (suc n) p → WinsWithin arena side n p =
     λ p w. (let told = before p in (told.wins n (omega arith)).1
     (earlier_win n _ (let h = told.within in omega arith) (suc n)
@@ -99,6 +99,6 @@ reached_codes arena side (suc n) most l lags codes before after i =
     let ply : suc n ≡ n + 1 = omega arith in
     let next : suc n + 1 ≡ n + 2 = omega arith in
     codes_of_bounds arena side (λ k. slice_index codes k)
-    (reached arena side n (lags_later arena side n most (omega arith) lags) codes
+    (tells_all arena side n (lags_later arena side n most (omega arith) lags) codes
     (subst (λ z. AreTold arena side z codes) ply before)
     (subst (λ z. AreTold arena side z codes) next after)) i

@@ -97,9 +97,9 @@ part_of place n next bytes is =
     ∙ ap (λ (l : List ℕ). take n (drop place bytes) ++ l) (sym (drop-drop n place bytes))
     ∙ take-append-drop n (drop place bytes)
 
-six : (a b c d e f u v w x y z : List ℕ) → a ≡ u → b ≡ v → c ≡ w → d ≡ x → e ≡ y → f ≡ z
+parts_joined : (a b c d e f u v w x y z : List ℕ) → a ≡ u → b ≡ v → c ≡ w → d ≡ x → e ≡ y → f ≡ z
     → (a ++ (b ++ (c ++ d))) ++ (e ++ f) ≡ u ++ (v ++ (w ++ (x ++ (y ++ z))))
-six a b c d e f u v w x y z p q r s t o = let flat : (u ++ (v ++ (w ++ x))) ++ (y ++ z) ≡ u
+parts_joined a b c d e f u v w x y z p q r s t o = let flat : (u ++ (v ++ (w ++ x))) ++ (y ++ z) ≡ u
     ++ (v ++ (w ++ (x ++ (y ++ z)))) = simp append_assoc in cc
 
 -- what was loaded gives the same bytes when it is written
@@ -119,7 +119,7 @@ loaded_is_written magic text size bytes h are =
     (omega (arith, long, length-drop last bytes)) (rest_bytes last bytes are) in
     let all : take (4 * size) (drop last bytes) ≡ drop last bytes = take_all (4 * size)
     (drop last bytes) (omega (arith, long, length-drop last bytes)) in
-    six magic (to_le_bytes w32 (length text)) text (to_le_bytes w32 size)
+    parts_joined magic (to_le_bytes w32 (length text)) text (to_le_bytes w32 size)
     (number_bytes (numbers size (drop front bytes))) (number_bytes (numbers size (drop last bytes)))
     (take 8 bytes) (take 4 (drop 8 bytes)) (take (length text) (drop 12 bytes))
     (take 4 (drop (12 + length text) bytes)) (take (4 * size) (drop front bytes)) (drop last bytes)

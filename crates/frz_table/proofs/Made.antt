@@ -163,9 +163,9 @@ abbrev other_than : ℕ → ℕ
 other_than zero = 1
 other_than (suc n) = 0
 
-differs : (n : ℕ) → other_than n ≡ n → ⊥
-differs zero e = omega arith
-differs (suc n) e = omega arith
+other_differs : (n : ℕ) → other_than n ≡ n → ⊥
+other_differs zero e = omega arith
+other_differs (suc n) e = omega arith
 
 abbrev pub unlike : List ℕ → List ℕ
 unlike magic = other_than (get_or magic 0 0) ∷ replicate 15 0
@@ -185,6 +185,6 @@ unlike_begins magic = by_test (bytes_eq (take 8 (unlike magic)) magic) refl
     by_test : (b : Bool) → bytes_eq (take 8 (unlike magic)) magic ≡ b → b ≡ false
     by_test false is = refl
     by_test true is =
-        absurd (differs (get_or magic 0 0)
+        absurd (other_differs (get_or magic 0 0)
         (ap (λ (l : List ℕ). get_or l 0 0)
         ((bytes_eq-Decides (take 8 (unlike magic)) magic).0 is)))

@@ -15,9 +15,9 @@ use Rattle.frz_table.proofs.Belonging.{belongs}
 use Rattle.frz_table.proofs.Refusing.{IsTested}
 
 -- the lesser of two
-either : (b : Bool) (n x y : ℕ) → n ≤ x → n ≤ y → n ≤ cond b x y
-either true n x y h k = h
-either false n x y h k = k
+below_both : (b : Bool) (n x y : ℕ) → n ≤ x → n ≤ y → n ≤ cond b x y
+below_both true n x y h k = h
+below_both false n x y h k = k
 
 by_rules : (read : Result RuleLines RulesFault) → 4 ≤ calls_by_rules read
 by_rules (Err fault) = omega arith
@@ -26,17 +26,17 @@ by_rules (Ok rules) = omega arith
 by_text : (format : Format) (bytes : List ℕ) → 3 ≤ calls_by_text format bytes
 by_text format bytes =
     let more = by_rules (format.read (kept_text bytes)) in
-    either (ltb (length bytes) (16 + kept_length bytes)) 3 3
+    below_both (ltb (length bytes) (16 + kept_length bytes)) 3 3
     (calls_by_rules (format.read (kept_text bytes))) (omega arith) (omega (arith, more))
 
 by_length : (format : Format) (bytes : List ℕ) → 3 ≤ calls_by_length format bytes
-by_length format bytes = either (ltb 65536 (kept_length bytes)) 3 3 (calls_by_text format bytes)
+by_length format bytes = below_both (ltb 65536 (kept_length bytes)) 3 3 (calls_by_text format bytes)
     (omega arith) (by_text format bytes)
 
 by_magic : (format : Format) (bytes : List ℕ) → 2 ≤ calls_by_magic format bytes
 by_magic format bytes =
     let more = by_length format bytes in
-    either (bytes_eq (take 8 bytes) format.magic) 2 (calls_by_length format bytes) 2
+    below_both (bytes_eq (take 8 bytes) format.magic) 2 (calls_by_length format bytes) 2
     (omega (arith, more)) (omega arith)
 
 -- one call at least
@@ -45,7 +45,7 @@ unfolding opening_calls
 one_call format None = omega arith
 one_call format (Some bytes) =
     let more = by_magic format bytes in
-    either (ltb (length bytes) 16) 1 1 (calls_by_magic format bytes) (omega arith)
+    below_both (ltb (length bytes) 16) 1 1 (calls_by_magic format bytes) (omega arith)
     (omega (arith, more))
 
 -- the steps that are passed

@@ -11,10 +11,10 @@ use Rattle.frz_table.specs.Tables.{Holds}
 use Rattle.frz_table.proofs.Refusing.{told_so}
 
 -- bytes with a right head and a text that takes memory
-wanting : (magic : List ℕ) (count text_count : ℕ) (text bytes : List ℕ)
+wants_memory : (magic : List ℕ) (count text_count : ℕ) (text bytes : List ℕ)
     → HasHead magic count text_count bytes → kept_text bytes ≡ text → TakesMemory text
     → WantsMemory magic bytes
-wanting magic count text_count text bytes h same takes = record {
+wants_memory magic count text_count text bytes h same takes = record {
   head = record {
     all = refl;
     enough = (let all = h.all in let kept = h.kept in let enough = h.enough in
@@ -42,7 +42,7 @@ read_wants magic (Some m) mid name count text_count text h is_mid read takes =
         → IsSomeAnd held (WantsMemory magic)
     by_held None e r = absurd e
     by_held (Some bytes) e r =
-        wanting magic count text_count text bytes e
+        wants_memory magic count text_count text bytes e
         (ap (λ (k : ℕ). take k (drop 12 bytes)) e.kept ∙ sym r) takes
 
 -- the text was read and gives rules
@@ -56,4 +56,4 @@ kept_wants magic (Some m) name text count rules h accepted = by_held (m name) h
         → IsSomeAnd held (WantsMemory magic)
     by_held None e = absurd e
     by_held (Some bytes) e =
-        wanting magic count (length text) text bytes e.head e.text_is (inr (rules, accepted))
+        wants_memory magic count (length text) text bytes e.head e.text_is (inr (rules, accepted))

@@ -16,7 +16,7 @@ unfoldable pub numbers : ℕ → List ℕ → List ℕ
 numbers zero bytes = []
 numbers (suc count) bytes = number_at 0 bytes ∷ numbers count (drop 4 bytes)
 
--- numbers as bytes, one behind the other
+-- numbers as bytes, one after the other
 unfoldable pub number_bytes : List ℕ → List ℕ
 number_bytes [] = []
 number_bytes (n ∷ ns) = to_le_bytes w32 n ++ number_bytes ns

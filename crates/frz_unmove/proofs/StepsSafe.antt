@@ -57,9 +57,9 @@ only_king p c a b size kings la lb ha hb ab =
 start_apart : (a b : ℕ) → is_between a a b ≡ false
 start_apart a b = grind (arith, nat_tests)
 
-itself : (c : Colour) → same_colour c c ≡ true
-itself White = refl
-itself Black = refl
+same_as_itself : (c : Colour) → same_colour c c ≡ true
+same_as_itself White = refl
+same_as_itself Black = refl
 
 module _ (q : Board) (man : Man) (a b : ℕ) (target : Option ℕ) (h : IsStep q man a b)
     (v : IsValid q) (other : man.colour ≡ other_of q.turn) where
@@ -198,7 +198,7 @@ module _ (q : Board) (man : Man) (a b : ℕ) (target : Option ℕ) (h : IsStep q
         let hit : attacks p b k ≡ true = ap (λ o. man_reaches p o b k) man_there
         ∙ sym (reaches_from man.colour man.kind k) ∙ e in
         let own : holds p (other_of q.turn) b ≡ true = ap (is_man_of (other_of q.turn)) man_there
-        ∙ ap (λ c. same_colour c (other_of q.turn)) other ∙ itself (other_of q.turn) in
+        ∙ ap (λ c. same_colour c (other_of q.turn)) other ∙ same_as_itself (other_of q.turn) in
         any_square (λ y. has p q.turn King y && is_attacked p y (other_of q.turn)) k on
         (and_from (has p q.turn King k) (is_attacked p k (other_of q.turn)) king_p
         (any_square (λ y. holds p (other_of q.turn) y && attacks p y k) b h.to

@@ -63,10 +63,10 @@ no_pawn Black Bishop e = refl
 no_pawn Black Knight e = refl
 no_pawn Black Pawn e = cc
 
-outside : (end b : Bool) → b ≡ false → not (end && b) ≡ true
-outside true false e = refl
-outside false b e = refl
-outside true true e = cc
+not_both : (end b : Bool) → b ≡ false → not (end && b) ≡ true
+not_both true false e = refl
+not_both false b e = refl
+not_both true true e = cc
 
 module _ (q : Board) (man : Man) (a b : ℕ) (target : Option ℕ) (h : IsStep q man a b)
     (v : IsValid q) (piece : is_pawn man.kind ≡ false) where
@@ -108,12 +108,12 @@ module _ (q : Board) (man : Man) (a b : ℕ) (target : Option ℕ) (h : IsStep q
       all_squares (λ s. not (is_end s && is_pawns (slice_index p.cells s)))
       (λ s l. elim (cases_eq s b) [
         | inl e ↦
-            outside (is_end s) (is_pawns (slice_index p.cells s))
+            not_both (is_end s) (is_pawns (slice_index p.cells s))
             (ap (λ n. is_pawns (slice_index p.cells n)) e ∙ ap is_pawns (at_to q man a b target h)
             ∙ no_pawn man.colour man.kind piece)
         | inr n ↦ elim (cases_eq s a) [
           | inl e ↦
-              outside (is_end s) (is_pawns (slice_index p.cells s))
+              not_both (is_end s) (is_pawns (slice_index p.cells s))
               (ap (λ n. is_pawns (slice_index p.cells n)) e
               ∙ ap is_pawns (at_from q man a b target h))
           | inr k ↦

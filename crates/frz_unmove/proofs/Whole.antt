@@ -16,9 +16,9 @@ use Rattle.frz_unmove.specs.Adding.{Adds}
 use Rattle.frz_unmove.specs.Gathering.{Comes}
 use Rattle.frz_unmove.proofs.Adding.{at_place, once_place}
 
-leads : (gs : List GroupLine) (q : ℕ) (b : Board) → HasNumber gs q b → (i : ℕ) (m : Step)
+comes_so_leads : (gs : List GroupLine) (q : ℕ) (b : Board) → HasNumber gs q b → (i : ℕ) (m : Step)
     → Comes gs b (record { number = i; mv = m }) → LeadsTo gs i m q
-leads gs q b h i m c = record {
+comes_so_leads gs q b h i m c = record {
   earlier = c.earlier;
   number = c.number;
   step = c.step;
@@ -26,9 +26,9 @@ leads gs q b h i m c = record {
   arrives = subst (HasNumber gs q) (sym c.arrives) h;
 }
 
-comes : (gs : List GroupLine) (q : ℕ) (b : Board) → HasNumber gs q b → (i : ℕ) (m : Step)
+leads_so_comes : (gs : List GroupLine) (q : ℕ) (b : Board) → HasNumber gs q b → (i : ℕ) (m : Step)
     → LeadsTo gs i m q → Comes gs b (record { number = i; mv = m })
-comes gs q b h i m l = record {
+leads_so_comes gs q b h i m l = record {
   earlier = l.earlier;
   number = l.number;
   step = l.step;
@@ -58,11 +58,11 @@ module _ (gs : List GroupLine) (q : ℕ) (b : Board) (h : HasNumber gs q b) (old
   pub all_listed : (i : ℕ) (m : Step) → Contains new (record { number = i; mv = m }) ↔ LeadsTo gs i
       m q
   all_listed i m = (
-    λ k. leads gs q b h i m
+    λ k. comes_so_leads gs q b h i m
         (f.only (record { number = i; mv = m })
         (subst (λ xs. Contains xs (record { number = i; mv = m })) new_is k)),
     λ l. subst (λ xs. Contains xs (record { number = i; mv = m })) (sym new_is)
-        (f.all (record { number = i; mv = m }) (comes gs q b h i m l)),
+        (f.all (record { number = i; mv = m }) (leads_so_comes gs q b h i m l)),
   )
 
   pub different_numbers : HaveDifferentNumbers new

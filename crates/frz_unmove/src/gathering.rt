@@ -21,6 +21,13 @@ use frz_bits::{Bitboards, next_square};
 use frz_board::{Colour, Kind, Man, Move, Square, man_of};
 use frz_index::Set;
 
+/// Where a move arrived, and what a pawn became there.
+#[derive(Clone, Copy)]
+struct Arrival {
+    to: Square,
+    promo: Option<Kind>,
+}
+
 /// Adds the move that took the cell `taken` and had this earlier target, with the number of the
 /// position before it, if the set has that position and the move leads from it to `q`.
 fn add_named(
@@ -51,29 +58,33 @@ fn add_at(
     set: &Set,
     at: u32,
     q: &Bitboards,
-    to: Square,
-    promo: Option<Kind>,
+    arrival: &Arrival,
     origins: u64,
     taken: u8,
     target: &Option<Square>,
     out: &mut Preds,
 )
-    requires promo { is_promotion promo ≡ true }
+    requires promo { is_promotion arrival.now.promo ≡ true }
     requires taken { taken ≤ 12 }
-    requires origins { HasOrigins set.now q.now to promo origins }
+    requires origins { HasOrigins set.now q.now arrival.now.to arrival.now.promo origins }
     requires number { HasNumber set.now at q.now }
     requires valid { IsValid q.now }
     requires room { length out.old + 64 ≤ 131072 }
-    ensures { Adds (ComesAt set.now q.now to promo taken target.now) out.old out.new 64 }
+    ensures { Adds (ComesAt set.now q.now arrival.now.to arrival.now.promo taken target.now)
+        out.old out.new 64 }
 {
-    let ready = ready_for(q, to, promo, taken, target);
+    let ready = ready_for(q, arrival.to, arrival.promo, taken, target);
     let mut n = 0;
     while let Some(from) = next_square(origins, n) {
         add_named(
             set,
             at,
             q,
-            Move { from, to, promo },
+            Move {
+                from,
+                to: arrival.to,
+                promo: arrival.promo,
+            },
             taken,
             target,
             &ready,
@@ -89,26 +100,26 @@ fn add_taking(
     set: &Set,
     at: u32,
     q: &Bitboards,
-    to: Square,
-    promo: Option<Kind>,
+    arrival: &Arrival,
     origins: u64,
     targets: u64,
     taken: u8,
     out: &mut Preds,
 )
-    requires promo { is_promotion promo ≡ true }
+    requires promo { is_promotion arrival.now.promo ≡ true }
     requires taken { taken ≤ 12 }
-    requires origins { HasOrigins set.now q.now to promo origins }
-    requires targets { IsTargetWord set.now q.now to targets }
+    requires origins { HasOrigins set.now q.now arrival.now.to arrival.now.promo origins }
+    requires targets { IsTargetWord set.now q.now arrival.now.to targets }
     requires number { HasNumber set.now at q.now }
     requires valid { IsValid q.now }
     requires room { length out.old + 576 ≤ 131072 }
-    ensures { Adds (ComesTaking set.now q.now to promo taken) out.old out.new 576 }
+    ensures { Adds (ComesTaking set.now q.now arrival.now.to arrival.now.promo taken)
+        out.old out.new 576 }
 {
-    add_at(set, at, q, to, promo, origins, taken, &None, out);
+    add_at(set, at, q, arrival, origins, taken, &None, out);
     let mut n = 0;
     while let Some(t) = next_square(targets, n) {
-        add_at(set, at, q, to, promo, origins, taken, &Some(t), out);
+        add_at(set, at, q, arrival, origins, taken, &Some(t), out);
         n = t.number() + 1;
     }
 }
@@ -130,25 +141,25 @@ fn add_taken(
     set: &Set,
     at: u32,
     q: &Bitboards,
-    to: Square,
-    promo: Option<Kind>,
+    arrival: &Arrival,
     origins: u64,
     targets: u64,
     taken: u8,
     out: &mut Preds,
 )
-    requires promo { is_promotion promo ≡ true }
+    requires promo { is_promotion arrival.now.promo ≡ true }
     requires taken { taken ≤ 12 }
     requires side { is_man_of q.now.turn (man_of_cell taken) ≡ true }
-    requires origins { HasOrigins set.now q.now to promo origins }
-    requires targets { IsTargetWord set.now q.now to targets }
+    requires origins { HasOrigins set.now q.now arrival.now.to arrival.now.promo origins }
+    requires targets { IsTargetWord set.now q.now arrival.now.to targets }
     requires number { HasNumber set.now at q.now }
     requires valid { IsValid q.now }
     requires room { length out.old + 576 ≤ 131072 }
-    ensures { Adds (ComesTaking set.now q.now to promo taken) out.old out.new 576 }
+    ensures { Adds (ComesTaking set.now q.now arrival.now.to arrival.now.promo taken)
+        out.old out.new 576 }
 {
-    if may_take(set, q, taken, to) {
-        add_taking(set, at, q, to, promo, origins, targets, taken, out);
+    if may_take(set, q, taken, arrival.to) {
+        add_taking(set, at, q, arrival, origins, targets, taken, out);
     }
 }
 
@@ -181,11 +192,12 @@ fn add_from_origins(
     requires room { length out.old + 3456 ≤ 131072 }
     ensures { Adds (ComesAs set.now q.now to promo) out.old out.new 3456 }
 {
+    let arrival = Arrival { to, promo };
     let targets = earlier_targets(set, q, to);
-    add_taking(set, at, q, to, promo, origins, targets, 0, out);
+    add_taking(set, at, q, &arrival, origins, targets, 0, out);
     let first = first_taken(q.turn());
     for k in 0..5 {
-        add_taken(set, at, q, to, promo, origins, targets, first + k, out);
+        add_taken(set, at, q, &arrival, origins, targets, first + k, out);
     }
 }
 

@@ -7,7 +7,7 @@ use Rattle.frz_store.specs.Told.{StoreTold, StoreQuiet}
 use Rattle.frz_arena.specs.Arena.{Arena}
 use Rattle.frz_arena.specs.Codes.{is_win}
 use Rattle.frz_arena.proofs.Lemmas.{IsFew, line_left, few_after, left_after}
-use Rattle.frz_ways.specs.declared.end.TheConstants.{MOST_PLIES}
+use Rattle.frz_ways.specs.declared.end.TheConstants.{LINE_LIMIT}
 use Rattle.frz_ways.specs.declared.hearing.Reader.{Reader}
 use Rattle.frz_ways.specs.declared.opponent.Opponent.{Opponent}
 use Rattle.frz_ways.specs.declared.opponent.Opponent.TheVariants as opponents
@@ -31,12 +31,12 @@ quiet_here store = record {
 
 -- how much a way may still do: a line by its code or its plies, a session by its lines
 abbrev pub way_left : Opponent → Arena Step ℕ Value → Colour → Reader → Cursor → ℕ
-way_left opponents.Codes arena side reader cursor = line_left MOST_PLIES cursor.played cursor.code
+way_left opponents.Codes arena side reader cursor = line_left LINE_LIMIT cursor.played cursor.code
 way_left opponents.Input arena side reader cursor = session_left arena side reader.more cursor.number
 
 -- the plies until now, with those that may follow, are few
 abbrev pub HasFew : Opponent → Arena Step ℕ Value → Colour → Reader → Cursor → Type 0
-HasFew opponents.Codes arena side reader cursor = IsFew MOST_PLIES cursor.played cursor.code
+HasFew opponents.Codes arena side reader cursor = IsFew LINE_LIMIT cursor.played cursor.code
 HasFew opponents.Input arena side reader cursor =
     cursor.played + session_left arena side reader.more cursor.number ≤ 2 * MOST_LINES + 1
 
@@ -49,9 +49,9 @@ few_at_start opponents.Input arena side start code first l few =
     (let h = own_most side (arena.node start) in omega (arith, h, few))
 
 next_of : (cursor : Cursor) (code : ℕ) → IsNextCode cursor.code code
-    → (cursor.code ≡ 1 → cursor.played < MOST_PLIES)
+    → (cursor.code ≡ 1 → cursor.played < LINE_LIMIT)
     → ((is_win cursor.code ≡ true) × (is_win code ≡ true) × (code + 2 ≡ cursor.code))
-    ⊎ ((cursor.code ≡ 1) × (code ≤ 1) × (cursor.played < MOST_PLIES))
+    ⊎ ((cursor.code ≡ 1) × (code ≤ 1) × (cursor.played < LINE_LIMIT))
 next_of cursor code next early =
     elim next [ inl h ↦ inl h | inr h ↦ inr (h.0, h.1, early h.0) ]
 
@@ -65,14 +65,14 @@ module _ (arena : Arena Step ℕ Value) (side : Colour) (cursor : Cursor) (old n
       → HasFew o arena side old cursor → HasFew o arena side new there
   few_on opponents.Codes less few =
       let e : suc cursor.played ≡ cursor.played + 1 = omega arith in
-      subst (λ k. IsFew MOST_PLIES k code) e
-      (few_after MOST_PLIES cursor.played cursor.code code few (next_of cursor code less.0 less.1))
+      subst (λ k. IsFew LINE_LIMIT k code) e
+      (few_after LINE_LIMIT cursor.played cursor.code code few (next_of cursor code less.0 less.1))
   few_on opponents.Input less few = omega (arith, less, few)
 
   pub left_on : (o : Opponent) → LeavesLess o arena side cursor old new number code
       → way_left o arena side new there < way_left o arena side old cursor
   left_on opponents.Codes less =
       let e : suc cursor.played ≡ cursor.played + 1 = omega arith in
-      subst (λ k. line_left MOST_PLIES k code < line_left MOST_PLIES cursor.played cursor.code) e
-      (left_after MOST_PLIES cursor.played cursor.code code (next_of cursor code less.0 less.1))
+      subst (λ k. line_left LINE_LIMIT k code < line_left LINE_LIMIT cursor.played cursor.code) e
+      (left_after LINE_LIMIT cursor.played cursor.code code (next_of cursor code less.0 less.1))
   left_on opponents.Input less = less

@@ -36,7 +36,7 @@ use Rattle.frz_ways.specs.WayTexts.{ply_text, plies_text}
 use Rattle.frz_ways.specs.Turns.{by_codes, opening, rest_text, GoesBy}
 use Rattle.frz_ways.proofs.Goings.{over_here, stops_here, replies_here, leads_front, way_front}
 use Rattle.frz_ways.proofs.Taking.{ends_on}
-use Rattle.frz_ways.proofs.Turned.{LeavesText, Stands, TailBy, reply_text}
+use Rattle.frz_ways.proofs.TurnsLeaveWays.{LeavesText, Stands, TailBy, reply_text}
 
 behind_some : (a b : List ℕ) → b ≢ [] → a ++ b ≢ []
 behind_some [] b some = some

@@ -146,11 +146,12 @@ module _ {S R : Type 0} (rules : RuleLines) (value : Board → Value) (side : Co
         turn = turn;
         legal = there.1 ∙ ap Some (sym mv);
         free = λ own.
-            let by : is_free rules side p x.arm.mv ≡ is_free rules made.position.turn made.position
-            made.move = ap (λ c. is_free rules c p x.arm.mv) (sym (turn ∙ own))
+            let same_freedom : is_free rules side p x.arm.mv
+            ≡ is_free rules made.position.turn made.position made.move =
+            ap (λ c. is_free rules c p x.arm.mv) (sym (turn ∙ own))
             ∙ (ap (λ m. is_free rules p.turn p m) mv
             ∙ ap (λ (q : Board). is_free rules q.turn q made.move) (sym there.0)) in
-            by ∙ (made.free ∙ made.keeps.free own);
+            same_freedom ∙ (made.free ∙ made.keeps.free own);
       }
 
   next_from : (p : Board) (x : LinePly) (to : ℕ × ℕ) → position_at rules.groups x.from.1 ≡ Some p

@@ -28,7 +28,7 @@ use Rattle.frz_ways.specs.declared.end.LineEnd.{LineEnd}
 use Rattle.frz_ways.specs.declared.end.LineEnd.TheVariants as lines
 use Rattle.frz_ways.specs.declared.end.LineFault.{LineFault}
 use Rattle.frz_ways.specs.declared.end.LineFault.TheVariants as faults
-use Rattle.frz_ways.specs.declared.end.TheConstants.{MOST_PLIES}
+use Rattle.frz_ways.specs.declared.end.TheConstants.{LINE_LIMIT}
 use Rattle.frz_ways.specs.declared.opponent.Opponent.TheVariants as opponents
 use Rattle.frz_ways.specs.declared.session_end.PlayFault.{PlayFault}
 use Rattle.frz_ways.specs.declared.session_end.PlayFault.TheVariants as plays
@@ -89,7 +89,7 @@ moves_told p kept dues.Cut mover e = absurd (cc)
 moves_told p kept (dues.Ply m) mover e = (let same : m ≡ mover = cc in ap Moves same)
 
 never_stops : (own : Bool) (p : ℕ × ℕ) (end : EndOfLine)
-    → IsStopBy {S = Unit {0}} own (ByCodes MOST_PLIES) tt p end tt → ⊥
+    → IsStopBy {S = Unit {0}} own (ByCodes LINE_LIMIT) tt p end tt → ⊥
 never_stops true p end h = h
 never_stops false p end h = h
 
@@ -102,11 +102,11 @@ module _ (arena : Arena Step ℕ Value) (side : Colour) (codes : ℕ → List �
   both_due k p =
       let kept = known codes p in
       let given = local_code (counted arena) side (known codes) p in (
-        due_by (k == 0) (nat_le MOST_PLIES k) kept given (arena.node p.1),
-        stage_due (line_player arena side codes) k p kept given (k == 0) (nat_le MOST_PLIES k) refl
+        due_by (k == 0) (nat_le LINE_LIMIT k) kept given (arena.node p.1),
+        stage_due (line_player arena side codes) k p kept given (k == 0) (nat_le LINE_LIMIT k) refl
             refl refl refl,
         stage_due (way_player arena opponents.Codes side codes) k p kept given (k == 0)
-            (nat_le MOST_PLIES k) refl refl refl refl,
+            (nat_le LINE_LIMIT k) refl refl refl refl,
       )
 
   over_both : (k : ℕ) (p : ℕ × ℕ) (end : EndOfLine)
@@ -122,7 +122,7 @@ module _ (arena : Arena Step ℕ Value) (side : Colour) (codes : ℕ → List �
       let d = both_due k p in d.2 ∙ moves_told p (known codes p) d.0 mover (sym d.1 ∙ e)
 
   taken_both : (own : Bool) (x : WayPly) (u : Unit {0}) (s : Input)
-      → IsTakenBy (line_player arena side codes) own (ByCodes MOST_PLIES) tt x u
+      → IsTakenBy (line_player arena side codes) own (ByCodes LINE_LIMIT) tt x u
       → IsTakenBy (way_player arena opponents.Codes side codes) own
       (finder arena opponents.Codes) s x s × (u ≡ tt)
   taken_both true x u s h = ((h.0, h.1, refl), h.2)

@@ -18,7 +18,7 @@ use Rattle.frz_ways.specs.declared.due.Due.TheVariants as dues
 use Rattle.frz_ways.specs.declared.playing.Cursor.{Cursor}
 use Rattle.frz_ways.specs.Dues.{due_by, due_on}
 use Rattle.frz_ways.specs.Turns.{HasMove}
-use Rattle.frz_ways.proofs.Seen.{move_there}
+use Rattle.frz_ways.proofs.MovesOfOneNumber.{move_there}
 
 by_if : (b : Bool) (x y : Due) (m : Colour) → (if b then x else y) ≡ dues.Ply m
     → ((b ≡ true) × (x ≡ dues.Ply m)) ⊎ ((b ≡ false) × (y ≡ dues.Ply m))
@@ -66,14 +66,14 @@ ply_due is_start is_late kept given node m h =
           ])
     ]
 
-second : (a b : Bool) → a ≡ true → (a && b) ≡ false → b ≡ false
-second true b t f = f
-second false b t f = absurd (cc)
+second_fails : (a b : Bool) → a ≡ true → (a && b) ≡ false → b ≡ false
+second_fails true b t f = f
+second_fails false b t f = absurd (cc)
 
 -- a cursor where a ply is due has no failing code
 pub never_failing : (k kept : ℕ) → (k ≡ 0) ⊎ (is_failure kept ≡ false)
     → ((k == 0) && is_failure kept) ≡ false → is_failure kept ≡ false
-never_failing k kept (inl e) f = second (k == 0) (is_failure kept) (eq-eqb k 0 e) f
+never_failing k kept (inl e) f = second_fails (k == 0) (is_failure kept) (eq-eqb k 0 e) f
 never_failing k kept (inr e) f = e
 
 pub still_early : (kept k most : ℕ) → ((kept == 1) && nat_le most k) ≡ false → kept ≡ 1 → k < most

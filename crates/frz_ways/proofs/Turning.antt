@@ -34,9 +34,9 @@ use Rattle.frz_ways.specs.SeenMoves.{choices_by, IsNextCode}
 use Rattle.frz_ways.proofs.Choices.{found_code}
 use Rattle.frz_ways.proofs.Chosen.{at_in}
 use Rattle.frz_ways.proofs.PlyDues.{PlyDue, ply_due, never_failing, still_early}
-use Rattle.frz_ways.proofs.Seen.{next_code_is}
+use Rattle.frz_ways.proofs.MovesOfOneNumber.{next_code_is}
 use Rattle.frz_ways.specs.declared.way_end.WayEnd.TheVariants as ends
-use Rattle.frz_ways.specs.declared.end.TheConstants.{MOST_PLIES}
+use Rattle.frz_ways.specs.declared.end.TheConstants.{LINE_LIMIT}
 use Rattle.frz_ways.specs.declared.opponent.Opponent.{Opponent}
 use Rattle.frz_ways.specs.declared.opponent.Opponent.TheVariants as opponents
 use Rattle.frz_ways.specs.declared.session_end.PlayFault.{PlayFault}
@@ -64,8 +64,7 @@ on_cut code (nodes.Going m) h =
     (λ b. (if b then dues.Cut else dues.Ply m) ≡ dues.Cut) (and_right (code == 1) false refl) h in
     absurd (cc)
 
--- what is due at a cursor, where it is told whether its way is late
--- no session is cut
+-- where a way is not late, as a session never is, no cut is due
 never_cut : (is_start : Bool) (code given : ℕ) (node : Node) (due : Due)
     → due ≡ due_by is_start false code given node → due ≡ dues.Cut → ⊥
 never_cut is_start code given node due e cut =
@@ -206,7 +205,7 @@ module _ {arena : Arena Step ℕ Value} {size : ℕ} (finite : IsFinite arena si
   less_by_codes alternates opponents.Codes is m e own old new same place a there next n leads =
       let early = subst (λ (z : Opponent). ((cursor.code == 1) && late_by z cursor.played) ≡ false)
       (sym is) (facts m e).early in
-      (next, still_early cursor.code cursor.played MOST_PLIES early)
+      (next, still_early cursor.code cursor.played LINE_LIMIT early)
   less_by_codes alternates opponents.Input is m e own old new same place a there next n leads =
       subst (λ k. session_left arena side k n < session_left arena side old.more cursor.number)
       (sym same) (left_own alternates m e own old.more place a there n leads)

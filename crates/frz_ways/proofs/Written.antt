@@ -49,7 +49,7 @@ use Rattle.frz_ways.specs.SessionTexts.{refused_text, end_text}
 use Rattle.frz_ways.specs.Turns.{moved_text, opening, turn_of, by_codes, due_at, own_word, Answers, PlaysByCodes, PlaysPly, AfterHeard, Unread, IsPlayed, GoesBy, wrong_at}
 use Rattle.frz_ways.proofs.Faulted.{IsStoreFault, store_goes, opening_failed, opened_tail, fault_tail}
 use Rattle.frz_ways.proofs.Taking.{took_none}
-use Rattle.frz_ways.proofs.Turned.{Stands, TailBy, turn_over, way_stage, over_tail, own_tail, reply_tail, stop_tail}
+use Rattle.frz_ways.proofs.TurnsLeaveWays.{Stands, TailBy, turn_over, way_stage, over_tail, own_tail, reply_tail, stop_tail}
 
 moved_lines : (word : List ℕ) (a : Arm Step ℕ Value) → IsLines (moved_text word a)
 moved_lines word a = as_lines (moved_text word a) (ends_behind word (arm_text a) (ends_arm a))
@@ -483,6 +483,7 @@ module _ (one : AsksForOne) (fills : FillsLocal)
           read.1,
           λ kept same.
               opened_tail arena opponent side kept cursor due old new t.bytes t.text result
-              (standing due e kept (read_by known many read kept same)) (t.goes kept (read_by known many read kept same)),
+              (standing due e kept (read_by known many read kept same))
+              (t.goes kept (read_by known many read kept same)),
         ),
       )

@@ -11,7 +11,7 @@ use Rattle.frz_arena.specs.Counted.{reader}
 use Rattle.frz_arena.specs.WayEnds.{End}
 use Rattle.frz_arena.specs.Ways.{Player, Ply, ByCodes, IsWay}
 use Rattle.frz_game.specs.Games.{graph_by}
-use Rattle.frz_ways.specs.declared.end.TheConstants.{MOST_PLIES}
+use Rattle.frz_ways.specs.declared.end.TheConstants.{LINE_LIMIT}
 
 -- a ply of a line: its places are pairs of the plies played before and a number
 abbrev pub LinePly : Type 0
@@ -22,10 +22,10 @@ abbrev pub EndOfLine : Type 0
 EndOfLine = End (ℕ × ℕ) Value Infallible
 
 -- the codes find the moves of both sides, where `codes k` are those known after k plies, and a hold
--- is cut after MOST_PLIES plies
+-- is cut after LINE_LIMIT plies
 abbrev pub line_player : Arena Step ℕ Value → Colour → (codes : ℕ → List ℕ)
     → Player Step (ℕ × ℕ) Value (Unit {0}) Infallible
-line_player arena side codes = reader arena side codes (ByCodes MOST_PLIES)
+line_player arena side codes = reader arena side codes (ByCodes LINE_LIMIT)
 
 -- the line of the side from the number, in the game that the rules describe, with these values
 -- outside the set

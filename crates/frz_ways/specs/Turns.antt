@@ -23,7 +23,7 @@ use Rattle.frz_prelude.specs.BoundLines.{kept_line}
 use Rattle.frz_ways.specs.declared.due.Due.{Due}
 use Rattle.frz_ways.specs.declared.due.Due.TheVariants as dues
 use Rattle.frz_ways.specs.declared.end.LineFault.TheVariants as faults
-use Rattle.frz_ways.specs.declared.end.TheConstants.{MOST_PLIES}
+use Rattle.frz_ways.specs.declared.end.TheConstants.{LINE_LIMIT}
 use Rattle.frz_ways.specs.declared.hearing.Heard.{Heard}
 use Rattle.frz_ways.specs.declared.hearing.Heard.TheVariants as heard
 use Rattle.frz_ways.specs.declared.hearing.Why.TheVariants.{Ended, Limit}
@@ -138,7 +138,7 @@ wrong_at side cursor given =
     plays.Line (faults.Wrong
     (record { side = side; number = cursor.number; kept = cursor.code; given = given }))
 
--- the turn did what is due, with these moves and their codes
+-- the turn played the ply that is due, or ended the way, with these moves and their codes
 abbrev pub IsPlayed : Opponent → Colour → Cursor → Due → List (Arm Step ℕ Value) → List ℕ → Reader →
     Reader → Result Turn PlayFault → SourceTold → SourceTold → SinkTold → SinkTold → Type 0
 IsPlayed opponent side cursor (dues.Wrong given) arms cs old new result source left out taken =
@@ -177,7 +177,7 @@ session_left arena side more number = 2 * more + own_turn side (arena.node numbe
 
 -- whether a hold is cut after so many plies: only in a line
 abbrev pub late_by : Opponent → (played : ℕ) → Bool
-late_by opponents.Codes played = nat_le MOST_PLIES played
+late_by opponents.Codes played = nat_le LINE_LIMIT played
 late_by opponents.Input played = false
 
 -- what is due at the cursor, by the moves there and their codes
@@ -188,12 +188,12 @@ due_at arena opponent side cursor arms cs =
     (node_code side (arena.node cursor.number) (free_among arms cs) cs) (arena.node cursor.number)
 
 -- a ply leaves less to do, so that the way ends: in a line the next code is the one that the kept
--- code asks for, and no hold is played beyond MOST_PLIES; in a session fewer lines are left, or the
+-- code asks for, and no hold is played beyond LINE_LIMIT; in a session fewer lines are left, or the
 -- side has made its move
 abbrev pub LeavesLess : Opponent → Arena Step ℕ Value → Colour → Cursor → (old new : Reader)
     → (number code : ℕ) → Type 0
 LeavesLess opponents.Codes arena side cursor old new number code =
-    IsNextCode cursor.code code × (cursor.code ≡ 1 → cursor.played < MOST_PLIES)
+    IsNextCode cursor.code code × (cursor.code ≡ 1 → cursor.played < LINE_LIMIT)
 LeavesLess opponents.Input arena side cursor old new number code =
     session_left arena side new.more number < session_left arena side old.more cursor.number
 

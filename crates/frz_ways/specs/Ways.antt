@@ -7,7 +7,7 @@ use Rattle.frz_arena.specs.Arena.{Arena}
 use Rattle.frz_arena.specs.Counted.{reader}
 use Rattle.frz_arena.specs.WayEnds.{End}
 use Rattle.frz_arena.specs.Ways.{Player, Ply, Opponent as Finder, ByCodes, ByInput, IsWay}
-use Rattle.frz_ways.specs.declared.end.TheConstants.{MOST_PLIES}
+use Rattle.frz_ways.specs.declared.end.TheConstants.{LINE_LIMIT}
 use Rattle.frz_ways.specs.declared.opponent.Opponent.{Opponent}
 use Rattle.frz_ways.specs.declared.opponent.Opponent.TheVariants as opponents
 use Rattle.frz_ways.specs.Reading.{Input, Halt, reads}
@@ -19,9 +19,9 @@ WayPly = Ply Step (ℕ × ℕ) Value
 abbrev pub EndOfWay : Type 0
 EndOfWay = End (ℕ × ℕ) Value Halt
 
--- what finds the opponent's plies: the codes, which cut a hold after MOST_PLIES plies, or the input
+-- what finds the opponent's plies: the codes, which cut a hold after LINE_LIMIT plies, or the input
 abbrev pub finder : Arena Step ℕ Value → Opponent → Finder (ℕ × ℕ) Input Halt
-finder arena opponents.Codes = ByCodes MOST_PLIES
+finder arena opponents.Codes = ByCodes LINE_LIMIT
 finder arena opponents.Input = ByInput (λ p input. reads (arena.arms p.1) input.more input.left)
 
 -- a player that goes by these codes, where `codes k` are those known after k plies

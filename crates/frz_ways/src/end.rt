@@ -8,7 +8,7 @@ use frz_sets::Value;
 use frz_store::{Failed, StoreFault};
 
 /// The number of plies after which a line from a hold is cut.
-pub const MOST_PLIES: u32 = 100;
+pub const LINE_LIMIT: u32 = 100;
 
 /// How a line ends.
 #[derive(Clone, Copy, Debug, PartialEq, Eq, Drop)]
@@ -17,7 +17,7 @@ pub enum LineEnd {
     Stalemate,
     /// A move left the set, to a position with this value.
     Exit(Value),
-    /// The line holds, and was cut after [`MOST_PLIES`] plies.
+    /// The line holds, and was cut after [`LINE_LIMIT`] plies.
     Cut,
 }
 

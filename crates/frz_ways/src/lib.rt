@@ -24,8 +24,9 @@ mod way;
 mod way_end;
 
 pub use best::best_line;
-pub use end::{LineEnd, LineFault, MOST_PLIES};
+pub use end::{LINE_LIMIT, LineEnd, LineFault};
 pub use hearing::Reader;
+pub use kept_codes::{KeptCodes, Loaded, Nowhere};
 pub use loaded::play_loaded;
 pub use opponent::{Opponent, Player};
 pub use reading::read_codes;

@@ -5,7 +5,7 @@ use frz_board::Colour;
 /// Who finds the plies of the opponent.
 #[derive(Clone, Copy)]
 pub enum Opponent {
-    /// In a line: the codes of the side. A line from a hold is cut after `MOST_PLIES` plies.
+    /// In a line: the codes of the side. A line from a hold is cut after `LINE_LIMIT` plies.
     Codes,
     /// In a session: the lines of an input.
     Input,

@@ -1,4 +1,4 @@
-//! One turn of a way: the program does what is due at a number.
+//! One turn of a way: a ply is played at a number, or the way ends there.
 ghost use Rattle.std.specs.Prelude.{◌≡◌, ◌<◌, ℕ, List, length, true};
 ghost use Rattle.frz_store.specs.Told.{SinkTold, source_of, sink_of};
 ghost use Rattle.frz_answer.specs.Texts.{WroteText};

@@ -10,7 +10,7 @@ ghost use Rattle.frz_ways.specs.Reads.{HasDifferentArms};
 ghost use Rattle.frz_ways.specs.Turns.{due_at, late_by};
 
 use crate::due::{Due, what_is_due};
-use crate::end::MOST_PLIES;
+use crate::end::LINE_LIMIT;
 use crate::kept_codes::KeptCodes;
 use crate::opponent::{Opponent, Player};
 use crate::playing::Cursor;
@@ -25,7 +25,7 @@ fn is_late(opponent: Opponent, played: u32) -> bool
     ensures { result ≡ late_by opponent played }
 {
     match opponent {
-        Opponent::Codes => MOST_PLIES <= played,
+        Opponent::Codes => LINE_LIMIT <= played,
         Opponent::Input => false,
     }
 }

@@ -31,7 +31,8 @@ use frz_steps::Steps;
 use frz_store::{Sink, Source};
 use std::sync::ledger::Ledger;
 
-/// Plays one turn: it lists the moves of the number, reads their codes, and does what is due there.
+/// Plays one turn: it lists the moves of the number, reads their codes, and plays the ply there or
+/// ends the way.
 fn turn<G: NumberedGame<L>, T: KeptCodes<S>, S, I: Source, O: Sink, L: Ledger>(
     game: &G,
     table: &T,

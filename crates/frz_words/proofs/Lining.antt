@@ -32,18 +32,18 @@ pub ruleset lining = (lines_none, lines_last, lines_next)
 abbrev AreShort : ℕ → List (List ℕ) → Type 0
 AreShort n parts = AllByRecursion (λ part. length part ≤ n) parts
 
-longer : (n : ℕ) (parts : List (List ℕ)) → AreShort n parts → AreShort (suc n) parts
-longer n [] h = tt
-longer n (part ∷ parts) h = let l = h.0 in (omega arith, longer n parts h.1)
+short_in_longer : (n : ℕ) (parts : List (List ℕ)) → AreShort n parts → AreShort (suc n) parts
+short_in_longer n [] h = tt
+short_in_longer n (part ∷ parts) h = let l = h.0 in (omega arith, short_in_longer n parts h.1)
 
 first_short : (b n : ℕ) (parts : List (List ℕ)) → AreShort n parts →
     AreShort (suc n) (with_first b parts)
 first_short b n [] h = (omega arith, tt)
-first_short b n (part ∷ parts) h = let l = h.0 in (omega arith, longer n parts h.1)
+first_short b n (part ∷ parts) h = let l = h.0 in (omega arith, short_in_longer n parts h.1)
 
 chosen_short : (c : Bool) (b n : ℕ) (parts : List (List ℕ)) → AreShort n parts →
     AreShort (suc n) (cond c ([] ∷ parts) (with_first b parts))
-chosen_short true b n parts h = (omega arith, longer n parts h)
+chosen_short true b n parts h = (omega arith, short_in_longer n parts h)
 chosen_short false b n parts h = first_short b n parts h
 
 split_short : (p : ℕ → Bool) (text : List ℕ) → AreShort (length text) (split p text)

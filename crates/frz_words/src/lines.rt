@@ -63,6 +63,7 @@ impl<'a> Model for Lines<'a> {
 }
 
 impl<'a> Lines<'a> {
+    /// The lines of a text of fewer than 2^32 bytes, from the first one on.
     #[tactic(auto, using(crate::proofs::Lining::lines_short))]
     pub fn new(text: &'a [u8]) -> Lines<'a>
         requires { length text.now < 2 ^ 32 }

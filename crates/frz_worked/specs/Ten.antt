@@ -21,7 +21,7 @@ target_of (Outside v) = 63
 abbrev pub step_of : Next → Step
 step_of next = record { from = 0; to = target_of next; promo = None }
 
--- One move is barred.
+-- every move but one is free
 abbrev pub is_free : ℕ → ℕ → Bool
 is_free i target = not ((i == BARRED.0) && (target == BARRED.1))
 

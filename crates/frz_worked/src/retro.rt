@@ -114,8 +114,8 @@ fn solves_by_hand(rt: HostRuntime) -> Result<(), Fail> {
 /// - 3, Black is to move, to 2 or an exit that White wins in 5. For White: both lose for Black, and
 ///   the exit lasts, 1 + 5 plies: 14. For Black: the exit fails within 1, and 2 within 1, so both
 ///   within 2: 7.
-/// - 4, White is to move, to 3, and to 0 barred. To 3 White wins within 6, so within 7: 16. For
-///   Black: White may play the barred move, and mates within 1: 5.
+/// - 4, White is to move, to 3, and to 0 by a move that is not free. To 3 White wins within 6, so
+///   within 7: 16. For Black: White may play that move too, and mates within 1: 5.
 /// - 5, Black is to move, to 4 or 6. For White: Black goes to 6 and round to 5 for ever: 1. For
 ///   Black: to 4 and 6 it fails within 1 each, so within 2: 7.
 /// - 6, White is to move, to 5 or an exit with no value. To 5 White wins no more than 5 does, and 5

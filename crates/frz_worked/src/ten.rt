@@ -1,5 +1,5 @@
-//! A game of ten numbers, made by hand: a mate, a stalemate, a broken number, a barred move, exits
-//! that are due in several passes, and a cycle.
+//! A game of ten numbers, made by hand: a mate, a stalemate, a broken number, a move that is not
+//! free, exits that are due in several passes, and a cycle.
 ghost use Rattle.std.specs.Prelude.{◌≡◌};
 ghost use Rattle.frz_worked.specs.Ten.{IsSound, arm_of, game, is_free, leads_to, pred_of, step_of};
 

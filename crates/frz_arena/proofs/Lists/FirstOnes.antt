@@ -30,17 +30,17 @@ one_first {xs = xs} i j x y a b =
       ]
     ]
 
-earlier : {X : Type 0} (test : X → Bool) (y : X) (ys : List X) → test y ≡ false → (i : ℕ) (x : X) →
-    IsFirst test ys i x → (j : ℕ) (z : X) → j < suc i → slice_get (y ∷ ys) j ≡ Some z →
-    test z ≡ false
-earlier test y ys f i x a zero z l e = let k : y ≡ z = cc in subst (λ w. test w ≡ false) k f
-earlier test y ys f i x a (suc j) z l e = a.before j z (omega (arith, l)) e
+earlier_fail : {X : Type 0} (test : X → Bool) (y : X) (ys : List X) → test y ≡ false →
+    (i : ℕ) (x : X) → IsFirst test ys i x → (j : ℕ) (z : X) → j < suc i →
+    slice_get (y ∷ ys) j ≡ Some z → test z ≡ false
+earlier_fail test y ys f i x a zero z l e = let k : y ≡ z = cc in subst (λ w. test w ≡ false) k f
+earlier_fail test y ys f i x a (suc j) z l e = a.before j z (omega (arith, l)) e
 
 first_later : {X : Type 0} (test : X → Bool) (y : X) (ys : List X) → test y ≡ false →
     (i : ℕ) (x : X) → IsFirst test ys i x → IsFirst test (y ∷ ys) (suc i) x
 first_later {X} test y ys f i x a =
     let before : (j : ℕ) (z : X) → j < suc i → slice_get (y ∷ ys) j ≡ Some z
-    → test z ≡ false = earlier test y ys f i x a in
+    → test z ≡ false = earlier_fail test y ys f i x a in
     record { here = a.here; passes = a.passes; before = before }
 
 -- where some element passes, there is a first one

@@ -262,18 +262,18 @@ pub record TellBefore {M N V : Type 0} (arena : Arena M N V) (side : Colour) (n 
   pub fails : (m : ℕ) (p : N) → m < n → FailsWithin arena side m p ↔ IsFailureWithin m (entry p)
 
 -- what comes at once or by moves is told by the codes, where each such step is
-told : {N : Type 0} (Within Moves : ℕ → N → Type 0) (Tells : ℕ → ℕ → Type 0) (code : N → ℕ)
+told_by_codes : {N : Type 0} (Within Moves : ℕ → N → Type 0) (Tells : ℕ → ℕ → Type 0) (code : N → ℕ)
     (n : ℕ) →
     ((m : ℕ) (p : N) → Within (suc m) p → Within m p ⊎ Moves m p) →
     ((m c : ℕ) → Tells m c → Tells (suc m) c) →
     ((p : N) → Within zero p → Tells zero (code p)) →
     ((m : ℕ) (p : N) → m < n → Moves m p → Tells (suc m) (code p)) →
     (m : ℕ) (p : N) → m ≤ n → Within m p → Tells m (code p)
-told Within Moves Tells code n split more at_once by_moves zero p l w = at_once p w
-told Within Moves Tells code n split more at_once by_moves (suc m) p l w =
+told_by_codes Within Moves Tells code n split more at_once by_moves zero p l w = at_once p w
+told_by_codes Within Moves Tells code n split more at_once by_moves (suc m) p l w =
     elim (split m p w) [
       | inl earlier ↦
-          more m (code p) (told Within Moves Tells code n split more at_once by_moves m p
+          more m (code p) (told_by_codes Within Moves Tells code n split more at_once by_moves m p
           (omega arith) earlier)
       | inr step ↦ by_moves m p (omega arith) step
     ]
@@ -284,7 +284,7 @@ module _ {M N V : Type 0} (arena : Arena M N V) (law : IsLawful arena) (side : C
   local_wins : (m : ℕ) (p : N) → m ≤ n → WinsWithin arena side m p
       → IsWinWithin m (local_code arena side entry p)
   local_wins =
-      told (WinsWithin arena side)
+      told_by_codes (WinsWithin arena side)
       (λ m. MovesToGood arena side (LeadsTo (WinsWithin arena side m) (IsGoodExit arena side m)))
       IsWinWithin (local_code arena side entry) n
       (λ m p w. w)
@@ -296,7 +296,7 @@ module _ {M N V : Type 0} (arena : Arena M N V) (law : IsLawful arena) (side : C
   local_fails : (m : ℕ) (p : N) → m ≤ n → FailsWithin arena side m p
       → IsFailureWithin m (local_code arena side entry p)
   local_fails =
-      told (FailsWithin arena side)
+      told_by_codes (FailsWithin arena side)
       (λ m. MovesToBad arena side (LeadsTo (FailsWithin arena side m) (IsBadExit arena side)))
       IsFailureWithin (local_code arena side entry) n
       (λ m p f. f)

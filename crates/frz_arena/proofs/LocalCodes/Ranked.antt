@@ -58,8 +58,8 @@ abbrev Holds : (own : Bool) → ℕ → Type 0
 Holds own c =
     (is_sought own c ≡ false) × (is_shunned own c ≡ false) × (rank_of own c ≡ 2 ^ 32)
 
-ranked : (own : Bool) (c : ℕ) → c < 2 ^ 32 → Seeks own c ⊎ (Shuns own c ⊎ Holds own c)
-ranked own c small =
+seeks_shuns_or_holds : (own : Bool) (c : ℕ) → c < 2 ^ 32 → Seeks own c ⊎ (Shuns own c ⊎ Holds own c)
+seeks_shuns_or_holds own c small =
     elim (cases_Bool (is_sought own c)) [
       | inl t ↦ inl (t, rw t refl)
       | inr f ↦ elim (cases_Bool (is_shunned own c)) [
@@ -82,7 +82,7 @@ last_shunned false c r s e = omega arith
 last_below : (own : Bool) (c : ℕ) → c < 2 ^ 32 → rank_of own c ≤ last_rank own
 last_below own c small =
     let high = last_high own in
-    elim (ranked own c small) [
+    elim (seeks_shuns_or_holds own c small) [
       | inl s ↦ (let e = s.1 in omega arith)
       | inr h ↦ elim h [
         | inl s ↦ last_shunned own c (rank_of own c) s.1 s.2
@@ -132,25 +132,25 @@ shunned_told : (r w : ℕ) → r + w ≡ 2 ^ 64 - 1 → w < 2 ^ 32 → w + 2 ≡
 shunned_told r w e small =
     let back : w + 2 ≡ 2 ^ 64 - 1 - r + 2 = omega arith in back ∙ high_rank r (omega arith)
 
-kinds : (own : Bool) → Kinds (is_sought own) (is_shunned own)
-kinds true = wins_first
-kinds false = failures_first
+own_kinds : (own : Bool) → Kinds (is_sought own) (is_shunned own)
+own_kinds true = wins_first
+own_kinds false = failures_first
 
 some_turn : (own : Bool) (c : ℕ) (cs : List ℕ) →
     turn_code own (c ∷ cs) ≡ chosen_code (is_sought own) (is_shunned own) (c ∷ cs)
 some_turn true c cs = refl
 some_turn false c cs = refl
 
-chosen : (own : Bool) (cs : List ℕ) (w : ℕ) → ((x : ℕ) → Contains cs x → x < 2 ^ 32) →
+best_is_chosen : (own : Bool) (cs : List ℕ) (w : ℕ) → ((x : ℕ) → Contains cs x → x < 2 ^ 32) →
     Contains cs w → best_rank own cs ≡ rank_of own w →
     chosen_code (is_sought own) (is_shunned own) cs ≡ code_of_rank (best_rank own cs)
-chosen own cs w small i best =
+best_is_chosen own cs w small i best =
     let low = small w i in
-    elim (ranked own w low) [
+    elim (seeks_shuns_or_holds own w low) [
       | inl s ↦ (
           let e : chosen_code (is_sought own) (is_shunned own) cs ≡ w + 2 =
-          chosen_is_least (kinds own) cs w i s.0
-          (λ x j t. elim (ranked own x (small x j)) [
+          chosen_is_least (own_kinds own) cs w i s.0
+          (λ x j t. elim (seeks_shuns_or_holds own x (small x j)) [
             | inl y ↦ (let k = best_below own cs x j in let p = s.1 in let q = y.1 in omega arith)
             | inr y ↦ elim y [ inl z ↦ absurd (let f = z.0 in cc) | inr z ↦ absurd (let f = z.0 in cc) ]
           ]) in
@@ -158,8 +158,8 @@ chosen own cs w small i best =
       | inr h ↦ elim h [
         | inl s ↦ (
             let e : chosen_code (is_sought own) (is_shunned own) cs ≡ w + 2 =
-            chosen_is_greatest (kinds own) cs w i
-            (λ x j. elim (ranked own x (small x j)) [
+            chosen_is_greatest (own_kinds own) cs w i
+            (λ x j. elim (seeks_shuns_or_holds own x (small x j)) [
               | inl y ↦ absurd (let k = best_below own cs x j in let p = s.2 in let q = y.1 in
                   let l = small x j in omega arith)
               | inr y ↦ elim y [
@@ -171,7 +171,7 @@ chosen own cs w small i best =
         | inr s ↦ (
             let e : chosen_code (is_sought own) (is_shunned own) cs ≡ 1 =
             chosen_is_hold (is_sought own) (is_shunned own) cs w i s.1
-            (λ x j. elim (ranked own x (small x j)) [
+            (λ x j. elim (seeks_shuns_or_holds own x (small x j)) [
               | inl y ↦ absurd (let k = best_below own cs x j in let p = s.2 in let q = y.1 in
                   let l = small x j in omega arith)
               | inr y ↦ elim y [ inl z ↦ z.0 | inr z ↦ z.0 ]
@@ -187,4 +187,4 @@ code_told false [] best h = ap code_of_rank h.rank
 code_told own (c ∷ cs) best h =
     let t = best_there own c cs h.small in
     ap code_of_rank h.rank
-    ∙ sym (some_turn own c cs ∙ chosen own (c ∷ cs) t.0 h.small t.1 t.2)
+    ∙ sym (some_turn own c cs ∙ best_is_chosen own (c ∷ cs) t.0 h.small t.1 t.2)

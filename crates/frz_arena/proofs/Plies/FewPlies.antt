@@ -84,22 +84,22 @@ inside_step arena side entry most (Inside q) lags h = (q, refl)
 inside_step arena side entry most (Outside v) lags h =
     absurd (let k = exit_below most (arena.lag v) (arena.class v side) (lags v refl) in omega arith)
 
-unequal : (p x : ℕ) → p ≢ x → eqb p x ≡ false
-unequal p x h = grind (arith, nat_tests)
+differ_by_test : (p x : ℕ) → p ≢ x → eqb p x ≡ false
+differ_by_test p x h = grind (arith, nat_tests)
 
-equal : (q x : ℕ) → eqb q x ≡ true → q ≡ x
-equal q x t = grind (arith, nat_tests)
+equal_by_test : (q x : ℕ) → eqb q x ≡ true → q ≡ x
+equal_by_test q x t = grind (arith, nat_tests)
 
 pub among : (xs : List ℕ) (q : ℕ) → list_any (eqb q) xs ≡ true → Contains xs q
 among xs q t =
-    let r = some_from (eqb q) xs t in let e : q ≡ r.0 = equal q r.0 r.2 in
+    let r = some_from (eqb q) xs t in let e : q ≡ r.0 = equal_by_test q r.0 r.2 in
     subst (λ z. Contains xs z) (sym e) r.1
 
 pub apart : (p : ℕ) (xs : List ℕ) → ((x : ℕ) → Contains xs x → p ≢ x) →
     AllByRecursion (λ y. eqb p y ≡ false) xs
 apart p [] h = tt
 apart p (x ∷ xs) h =
-    (unequal p x (h x (first_in x xs)), apart p xs (λ y i. h y (later_in x xs y i)))
+    (differ_by_test p x (h x (first_in x xs)), apart p xs (λ y i. h y (later_in x xs y i)))
 
 pub one_distinct : (p : ℕ) → IsDistinct eqb (p ∷ [])
 unfolding IsDistinct

@@ -32,15 +32,15 @@ use Rattle.frz_arena.proofs.Ways.RightWays.{right_way, numbers_closed, number_th
 use Rattle.frz_arena.proofs.Ways.SafeWays.{arm_is, move_of_arm, safe_next}
 
 -- a list with no elements that are renamed has none
-unmapped : {X Y : Type 0} (f : X → Y) (xs : List X) → map f xs ≡ [] → xs ≡ []
-unmapped f [] e = refl
-unmapped f (x ∷ xs) e = absurd (cc)
+empty_image : {X Y : Type 0} (f : X → Y) (xs : List X) → map f xs ≡ [] → xs ≡ []
+empty_image f [] e = refl
+empty_image f (x ∷ xs) e = absurd (cc)
 
 pub counted_lawful : {M N V : Type 0} (arena : Arena M N V) → IsLawful arena →
     IsLawful (counted arena)
 counted_lawful arena law = record {
   goes_on = λ p mover e none.
-      law.goes_on p.1 mover e (unmapped (named (after (suc p.0))) (arena.arms p.1) none);
+      law.goes_on p.1 mover e (empty_image (named (after (suc p.0))) (arena.arms p.1) none);
   opposed = law.opposed;
 }
 

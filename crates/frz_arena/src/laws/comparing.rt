@@ -34,7 +34,8 @@ pub fn no_contradiction<P, M, V, W>()
 {}
 
 /// In a game that is no worse for a side, its bound is at least as good. So it never hurts a side
-/// if fewer of its moves are forbidden, values are better for it or the set is larger.
+/// if fewer of its moves are forbidden, values are better for it, or the set is larger by positions
+/// whose values were bad for it.
 pub fn no_worse<P, M, V, W>()
     ensures { (first : Game P M V) (second : Game P M W) → first.chess ≡ second.chess →
         (side : Colour) → IsNoWorse first second side →

@@ -25,9 +25,10 @@ pub fn games_are_lawful<P, M, V>()
         IsLawful (arena_of game) }
 {}
 
-/// A win of the restricted game is forced in chess, to mate or to an exit that is good for the
-/// side. Where the values of the exits are true, it is forced to mate; and within the plies of the
-/// win, where each value by which the side wins gives a number of plies.
+/// A win of the restricted game is forced in chess, to mate or to a position outside the set whose
+/// value is good for the side, be it an exit or one beyond an exit of another value. Where the
+/// values of the exits are true, it is forced to mate; and within the plies of the win, where each
+/// value by which the side wins gives a number of plies.
 pub fn wins_are_forced<P, M, V>()
     ensures goals { (game : Game P M V) (side : Colour) (n : ℕ) (p : P) →
         WinsWithin (arena_of game) side n p → Forces game.chess (goals_of game side) side n p }

@@ -48,9 +48,10 @@ pub fn one_table<M, N, V>()
         (i : ℕ) → slice_index codes i ≤ 3 + 2 * (numbers.size + most) }
 {}
 
-/// A win in the table of a game is forced in chess, to mate or to an exit that is good for the
-/// side. Where the values of the exits are true, it is forced to mate; and within the plies of the
-/// code, where each value by which the side wins gives a number of plies.
+/// A win in the table of a game is forced in chess, to mate or to a position outside the set whose
+/// value is good for the side, be it an exit or one beyond an exit of another value. Where the
+/// values of the exits are true, it is forced to mate; and within the plies of the code, where each
+/// value by which the side wins gives a number of plies.
 pub fn stored_wins<P, M, V>()
     ensures goals { (game : Game P M V) (numbers : Numbering P) (side : Colour) (codes : List ℕ) →
         IsTable numbers (arena_of game) side codes →

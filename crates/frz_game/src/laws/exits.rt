@@ -27,9 +27,10 @@ pub fn true_values()
         AreTrueExits rules value → TrueExits (game_of rules value) }
 {}
 
-/// A side whose bound is a win forces, within its plies, mate in chess or an exit whose value wins
-/// for it. Where the exits are true it forces mate, and within these plies where each value by
-/// which it wins names its plies.
+/// A side whose bound is a win forces, within its plies, mate in chess or a position outside the
+/// set whose value wins for it, be it an exit or one beyond an exit of another value. Where the
+/// exits are true it forces mate, and within these plies where each value by which it wins names
+/// its plies.
 pub fn wins()
     ensures goals { (rules : RuleLines) (value : Board → Value) (side : Colour) (n : ℕ)
         (p : Board) →

@@ -11,7 +11,7 @@ ghost use Rattle.frz_game.specs.Bounds.{IsTableOf};
 ghost use Rattle.frz_game.specs.Games.{graph_by};
 ghost use Rattle.frz_game.specs.Numbers.{position_at};
 ghost use Rattle.frz_index.specs.Members.{Member, Num};
-ghost use Rattle.frz_ways.specs.declared.end.TheConstants.{MOST_PLIES};
+ghost use Rattle.frz_ways.specs.declared.end.TheConstants.{LINE_LIMIT};
 ghost use Rattle.frz_ways.specs.ChessGames.{IsGame};
 ghost use Rattle.frz_ways.specs.Lines.{LinePly, EndOfLine, IsLine};
 
@@ -82,7 +82,7 @@ pub fn least_plies()
 }
 
 /// From a start whose code is a hold, nobody is mated in a line, and an exit holds for the side and
-/// does not win. The line has at most `MOST_PLIES` plies, and exactly so many where it is cut.
+/// does not win. The line has at most `LINE_LIMIT` plies, and exactly so many where it is cut.
 pub fn holds_are_drawn()
     ensures drawn { (rules : RuleLines) (value : Board → Value)
         (side : Colour) (codes : ℕ → List ℕ) (start : ℕ)
@@ -92,11 +92,11 @@ pub fn holds_are_drawn()
     ensures few { (rules : RuleLines) (value : Board → Value)
         (side : Colour) (codes : ℕ → List ℕ) (start : ℕ)
         (plies : List LinePly) (end : EndOfLine) → slice_index (codes 0) start ≡ 1 →
-        IsLine rules value side codes start plies end → length plies ≤ MOST_PLIES }
+        IsLine rules value side codes start plies end → length plies ≤ LINE_LIMIT }
     ensures cut { (rules : RuleLines) (value : Board → Value)
         (side : Colour) (codes : ℕ → List ℕ) (start : ℕ)
         (plies : List LinePly) → slice_index (codes 0) start ≡ 1 →
-        IsLine rules value side codes start plies Cut → length plies ≡ MOST_PLIES }
+        IsLine rules value side codes start plies Cut → length plies ≡ LINE_LIMIT }
 {
     holds_in_lines::<Move, (u32, u32), ExitValue, (), Infallible>();
 }

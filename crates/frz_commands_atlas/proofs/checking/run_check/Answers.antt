@@ -1,49 +1,33 @@
-use Rattle.std.proofs.Common.{sym, ap, ℕ, List, ◌∙◌, true, false}
+use Rattle.std.proofs.Common.{sym, ap, ◌∙◌}
 use Rattle.std.specs.Prelude.{map}
 use Rattle.std.specs.String.{string_bytes}
 use Rattle.frz_store.specs.Told.{store_of}
-use Rattle.frz_answer.specs.Jobs.{Job}
-use Rattle.frz_answer.specs.Words.{unless}
-use Rattle.frz_answer.proofs.Lemmas.{as_taken, as_unless}
 use Rattle.frz_commands_atlas.specs.CheckMeans.{checking_at}
 use Rattle.frz_commands_atlas.specs.Names.{has_twice}
-use Rattle.frz_commands_atlas.proofs.Taken.{as_named}
+use Rattle.frz_commands_atlas.proofs.Taken.{as_named, ran_named, ran_refused}
 use Rattle.frz_commands_atlas.proofs.checking.run_check.Goals as goal
-
-abbrev by_words : List (List ℕ) → List ℕ × List (List ℕ) → Job
-by_words words names = unless (has_twice words) (checking_at names.0 names.1)
 
 pub check_named-requires-clause-apart : goal.check_named-requires-clause-apart
 check_named-requires-clause-apart g c =
     let words = map string_bytes c.args.words.now in
-    let behind = map string_bytes c.in-Some.behind.now in
-    let named = as_named words c.in-Some.table.now behind (sym c.in-Some.ensures) in
-    ap has_twice (sym named.0) ∙ sym c.has_twice.ensures ∙ c.if-has_twice.false
+    let behind = map string_bytes c.in-Ok.behind.now in
+    ap has_twice (sym (as_named words c.in-Ok.table.now behind c.in-Ok.ensures.named.named).0)
+    ∙ c.in-Ok.ensures.named.apart
 
 pub check_named-requires-clause-few : goal.check_named-requires-clause-few
 check_named-requires-clause-few g c =
     let words = map string_bytes c.args.words.now in
-    let behind = map string_bytes c.in-Some.behind.now in
-    (as_named words c.in-Some.table.now behind (sym c.in-Some.ensures)).1
+    let behind = map string_bytes c.in-Ok.behind.now in
+    (as_named words c.in-Ok.table.now behind c.in-Ok.ensures.named.named).1
 
-pub returns-then-has_twice-clause-ran : goal.returns-then-has_twice-clause-ran
-returns-then-has_twice-clause-ran g c = λ input.
-    let words = map string_bytes c.args.words.now in
-    let behind = map string_bytes c.in-Some.behind.now in
-    as_taken _ _ _ (by_words words) _ _ c.in-Some.ensures
-    (as_unless _ _ _ (checking_at c.in-Some.table.now behind) true (has_twice words)
-    (sym c.if-has_twice.true ∙ c.has_twice.ensures)
-    (c.refuse.ensures (store_of g.S.Store c.args.store.now) input _))
+pub returns-in-Ok-clause-ran : goal.returns-in-Ok-clause-ran
+returns-in-Ok-clause-ran g c = λ input.
+    ran_named (λ names. checking_at names.0 names.1) (map string_bytes c.args.words.now) _ _ _
+    c.in-Ok.table.now (map string_bytes c.in-Ok.behind.now) c.in-Ok.ensures.named
+    (c.check_named.ensures input)
 
-pub returns-else-has_twice-clause-ran : goal.returns-else-has_twice-clause-ran
-returns-else-has_twice-clause-ran g c = λ input.
-    let words = map string_bytes c.args.words.now in
-    let behind = map string_bytes c.in-Some.behind.now in
-    as_taken _ _ _ (by_words words) _ _ c.in-Some.ensures
-    (as_unless _ _ _ (checking_at c.in-Some.table.now behind) false (has_twice words)
-    (sym c.if-has_twice.false ∙ c.has_twice.ensures) (c.check_named.ensures input))
-
-pub returns-in-None-clause-ran : goal.returns-in-None-clause-ran
-returns-in-None-clause-ran g c = λ input.
-    as_taken _ _ _ (by_words (map string_bytes c.args.words.now)) _ _ c.in-None.ensures
-    (c.refuse-in-None.ensures (store_of g.S.Store c.args.store.now) input _)
+pub returns-in-Err-clause-ran : goal.returns-in-Err-clause-ran
+returns-in-Err-clause-ran g c = λ input.
+    ran_refused (λ names. checking_at names.0 names.1) (map string_bytes c.args.words.now) _ _ _
+    c.in-Err.why c.in-Err.ensures.refused
+    (c.refuse.ensures (store_of g.S.Store c.args.store.now) input _)

@@ -4,7 +4,7 @@ use Rattle.frz_table.specs.Opening.{contents_of}
 use Rattle.frz_commands_line.specs.Later.{held_later}
 use Rattle.frz_commands_line.specs.LineOf.{codes_later}
 use Rattle.frz_commands_line.proofs.Later.{held_codes}
-use Rattle.frz_commands_line.proofs.Played.{line_ran}
+use Rattle.frz_commands_line.proofs.LineEndsWell.{line_ran}
 use Rattle.frz_commands_line.proofs.line.line_in.Goals as goal
 
 pub returns : goal.returns

@@ -9,7 +9,7 @@ use Rattle.frz_retro.specs.Graphs.{Arm}
 use Rattle.frz_retro.specs.Kinds.{is_of}
 use Rattle.frz_retro.proofs.CodeFacts.{win_is, failure_is}
 use Rattle.frz_retro.proofs.Laws.{contains_in, in_contains}
-use Rattle.frz_retro.proofs.Settled.{Rules, settled_by, held_by, by_turn, nothing_in}
+use Rattle.frz_retro.proofs.SettledIsLocal.{Rules, settled_by, held_by, by_turn, nothing_in}
 use Rattle.frz_retro.proofs.StateFacts.{settled_stays}
 use Rattle.frz_retro.proofs.local.local_codes.Goals as goal
 

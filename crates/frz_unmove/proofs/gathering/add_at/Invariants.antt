@@ -6,8 +6,8 @@ use Rattle.frz_unmove.proofs.gathering.add_at.Given as goal
 
 abbrev pub invariant-loop-from : goal.invariant-loop-from
 invariant-loop-from l =
-    (l.n ≤ 64) × Adds (Below (ComesAt l.set l.q l.to l.promo l.taken l.target) (λ x. x.mv.from) l.n)
-    l.fn.out l.out l.n
+    (l.n ≤ 64) × Adds (Below (ComesAt l.set l.q l.arrival.to l.arrival.promo l.taken l.target)
+    (λ x. x.mv.from) l.n) l.fn.out l.out l.n
 
 abbrev pub decreases-loop-from : goal.decreases-loop-from
 decreases-loop-from l = 64 - l.n

@@ -6,5 +6,5 @@ use Rattle.frz_unmove.proofs.gathering.add_from_origins.Given as goal
 
 abbrev pub invariant-loop-k : goal.invariant-loop-k
 invariant-loop-k l =
-    Adds (Below (ComesAs l.set l.q l.to l.promo) (taken_of l.set) (first_taken l.q.turn + l.k))
-    l.fn.out l.out (576 + 576 * l.k)
+    Adds (Below (ComesAs l.set l.q l.fn.to l.fn.promo) (taken_of l.set)
+    (first_taken l.q.turn + l.k)) l.fn.out l.out (576 + 576 * l.k)

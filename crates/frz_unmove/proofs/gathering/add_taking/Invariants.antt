@@ -8,7 +8,7 @@ abbrev pub invariant-loop-t : goal.invariant-loop-t
 invariant-loop-t l = record {
   low : l.n ≤ 64;
   rank : l.n ≤ first_target l.q.turn + 8;
-  added : Adds (Below (ComesTaking l.set l.q l.to l.promo l.taken)
+  added : Adds (Below (ComesTaking l.set l.q l.arrival.to l.arrival.promo l.taken)
       (λ x. target_key (target_of l.set x)) (l.n + 1)) l.fn.out l.out
       (64 * (1 + (l.n - first_target l.q.turn)));
 }

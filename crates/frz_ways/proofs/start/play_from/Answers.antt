@@ -128,7 +128,8 @@ returns-clause-cause g c =
 pub returns-clause-input : goal.returns-clause-input
 returns-clause-input g c =
     answer_input c.play_way-finish.result c.end_answer.ensures
-    (source_of g.I.Source c.args.input.now) (source_of g.I.Source c.play_way-finish.new.input) c.play_way-finish.ensures.input
+    (source_of g.I.Source c.args.input.now) (source_of g.I.Source c.play_way-finish.new.input)
+    c.play_way-finish.ensures.input
 
 pub play_way-finish-requires-clause-different : goal.play_way-finish-requires-clause-different
 play_way-finish-requires-clause-different g c = λ i k l n.

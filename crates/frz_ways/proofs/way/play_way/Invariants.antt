@@ -5,7 +5,7 @@ use Rattle.frz_answer.specs.World.{spent_by}
 use Rattle.frz_ways.specs.declared.opponent.Opponent.TheVariants as opponents
 use Rattle.frz_ways.specs.Hearing.{HasEnded}
 use Rattle.frz_ways.proofs.Counting.{HasFew, way_left}
-use Rattle.frz_ways.proofs.Played.{SoFar}
+use Rattle.frz_ways.proofs.WaySoFar.{SoFar}
 use Rattle.frz_ways.proofs.way.play_way.Given as goal
 
 abbrev pub invariant-plies : goal.invariant-plies

@@ -2,7 +2,7 @@ use Rattle.std.proofs.Common.{refl, ℕ, List}
 use Rattle.frz_arena.proofs.Lemmas.{counted_lawful, counted_turns}
 use Rattle.frz_game.specs.Games.{game_of, graph_by}
 use Rattle.frz_game.specs.Numbers.{numbers_by}
-use Rattle.frz_ways.specs.declared.end.TheConstants.{MOST_PLIES}
+use Rattle.frz_ways.specs.declared.end.TheConstants.{LINE_LIMIT}
 use Rattle.frz_ways.specs.declared.opponent.Opponent.TheVariants as opponents
 use Rattle.frz_ways.specs.Reading.{Input, reads}
 use Rattle.frz_ways.specs.Ways.{WayPly, EndOfWay, GoesOn, way_player}
@@ -20,7 +20,7 @@ returns-clause-there c = λ rules value opponent side codes start input.
     elim opponent as (λ o. (plies : List WayPly) × (end : EndOfWay) × (left : Input)
     × GoesOn arena o side codes 0 input start plies end left) [
       | opponents.Codes ↦ (
-          let w = c.lines_end.ensures (way_player arena opponents.Codes side codes) MOST_PLIES refl
+          let w = c.lines_end.ensures (way_player arena opponents.Codes side codes) LINE_LIMIT refl
           lawful input (0, start) in
           (w.0, w.1, input, w.2))
       | opponents.Input ↦ c.sessions_end.ensures (way_player arena opponents.Input side codes)

@@ -1,4 +1,4 @@
--- What a turn never answers, and what it leaves of its input's end.
+-- What a turn answers and never answers, and what it leaves of its input's end.
 use Rattle.std.proofs.Common.{◌≡◌, ◌≤◌, inl, inr, ℕ, Bool, true, false, List, refl, sym, subst, ap, ◌∙◌, get_or, Result, Ok, Err, arith}
 use Rattle.std.specs.Prelude.{codes}
 use Rattle.std.specs.Result.{IsErrAnd}

@@ -1,4 +1,4 @@
--- How `line` ends by an open table.
+-- `line` ends well by an open table: it did its job, also where a fault stops it.
 use Rattle.std.proofs.Common.{◌≡◌, ◌↔◌, refl, sym, ap, subst, ◌∙◌, ℕ, ◌≤◌, List, [], ◌++◌, Result, Ok, Err, arith, append_assoc, append-nil}
 use Rattle.frz_board.specs.declared.man.Colour.{Colour}
 use Rattle.frz_board.specs.Boards.{Board}
@@ -35,7 +35,7 @@ use Rattle.frz_commands_line.proofs.Behind.{rest_of, behind_lines, cut_within}
 use Rattle.frz_commands_line.proofs.Counting.{unfinished_said}
 use Rattle.frz_commands_line.proofs.OpeningCosts.{costs_inside, costs_nothing}
 use Rattle.frz_commands_line.proofs.OutsideSet.{outside_ran}
-use Rattle.frz_commands_line.proofs.Seen.{LineThere, LineSo, by_member, lined_inside, lined_outside, line_so}
+use Rattle.frz_commands_line.proofs.KnownLine.{LineThere, LineSo, by_member, lined_inside, lined_outside, line_so}
 
 -- what was written of the line, by the codes that were read
 abbrev pub Wrote : Table → (later : ℕ → Files) → Colour → Board → Result LineEnd LineFault

@@ -39,7 +39,7 @@ use Rattle.frz_ways.specs.declared.hearing.Why.{Why}
 use Rattle.frz_ways.specs.declared.playing.Cursor.{Cursor}
 use Rattle.frz_ways.specs.declared.playing.Turn.{Turn}
 use Rattle.frz_ways.specs.declared.playing.Turn.TheVariants.{Over, Out}
-use Rattle.frz_ways.specs.declared.end.TheConstants.{MOST_PLIES}
+use Rattle.frz_ways.specs.declared.end.TheConstants.{LINE_LIMIT}
 use Rattle.frz_ways.specs.declared.opponent.Opponent.{Opponent}
 use Rattle.frz_ways.specs.declared.opponent.Opponent.TheVariants as opponents
 use Rattle.frz_ways.specs.WayEnds.{told, Finishes}
@@ -80,7 +80,7 @@ module _ (arena : Arena Step ℕ Value) (opponent : Opponent) (side : Colour) (k
 cut_by : (o : Opponent) (arena : Arena Step ℕ Value) (played entry code : ℕ) → entry ≡ code
     → is_cut (finder arena o) played entry ≡ ((code == 1) && late_by o played)
 cut_by opponents.Codes arena played entry code e =
-    ap (λ (c : ℕ). (c == 1) && nat_le MOST_PLIES played) e
+    ap (λ (c : ℕ). (c == 1) && nat_le LINE_LIMIT played) e
 cut_by opponents.Input arena played entry code e = sym (and_right (code == 1) false refl)
 
 pub way_stage : FillsLocal → (arena : Arena Step ℕ Value) (size : ℕ) → IsFinite arena size
@@ -105,9 +105,9 @@ abbrev pub turn_over : Result WayEnd PlayFault → Result Turn PlayFault
 turn_over (Ok answer) = Ok (Over answer)
 turn_over (Err fault) = Err fault
 
-joined : (first move plies last : List ℕ)
+texts_regrouped : (first move plies last : List ℕ)
     → (first ++ (move ++ [])) ++ (plies ++ last) ≡ ((first ++ move) ++ plies) ++ last
-joined first move plies last = simp (append_assoc, append-nil)
+texts_regrouped first move plies last = simp (append_assoc, append-nil)
 
 joined_exit : (first move exit : List ℕ) → (first ++ (move ++ exit)) ++ [] ≡ ((first ++ move) ++ [])
     ++ exit
@@ -161,7 +161,7 @@ module _ (arena : Arena Step ℕ Value) (opponent : Opponent) (side : Colour) (k
       (front ++ (move_line move ++ next_line next)) (Ok (turn_of move next code))
   ply_leaves u last front move (Inside n) code first others end is same from moved to leads = (
     plies_text opponent side others ++ end_text end,
-    joined front (move_line move) (plies_text opponent side others) (end_text end)
+    texts_regrouped front (move_line move) (plies_text opponent side others) (end_text end)
         ∙ ap (λ (l : List ℕ). (l ++ plies_text opponent side others) ++ end_text end) (sym same),
     (is n refl, (first, others, refl, to, leads, refl)),
   )

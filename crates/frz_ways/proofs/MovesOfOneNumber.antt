@@ -24,7 +24,7 @@ use Rattle.frz_arena.specs.LocalCodes.{arm_code, local_code, node_code}
 use Rattle.frz_arena.specs.Ways.{Player, Ply, Moves, Opponent, ByCodes, IsTaken, IsTakenBy, stage}
 use Rattle.frz_arena.proofs.Lemmas.{choice_is_arm, from_mapped, reaches_start, chosen_here, ply_here, found_at}
 use Rattle.frz_graph.specs.FreeCodes.{free_among}
-use Rattle.frz_ways.specs.declared.end.TheConstants.{MOST_PLIES}
+use Rattle.frz_ways.specs.declared.end.TheConstants.{LINE_LIMIT}
 use Rattle.frz_ways.specs.SeenMoves.{choices_by, IsNextCode}
 
 -- each move leads to the code that was read for it
@@ -62,7 +62,7 @@ seen_player side node arms cs kept = record {
   arena = seen_arena node arms cs;
   side = side;
   entry = seen_entry kept;
-  opponent = ByCodes MOST_PLIES;
+  opponent = ByCodes LINE_LIMIT;
 }
 
 seen_codes : (arena : Arena Step (Option ℕ) Value) (side : Colour) (kept : ℕ)
@@ -225,7 +225,7 @@ next_code_is side mover kept arms cs many agrees stands i y found =
     record { from = None; place = i; arm = r.0; mover = mover; refused = 0 } in
     let keeps = ply_here player tt None 0 tt tt x (reaches_start player tt None)
     (moves_here side mover kept arms cs many agrees stands)
-    (taken_by_codes player MOST_PLIES refl tt x refl r.1) in
+    (taken_by_codes player LINE_LIMIT refl tt x refl r.1) in
     let here = found_at has_code (is_win kept) kept (map seen (seen_arms arms cs)) i y f in
     let m = slice_get-map seen (seen_arms arms cs) i in
     let there = keeps.there in
@@ -233,12 +233,12 @@ next_code_is side mover kept arms cs many agrees stands i y found =
     let is : y ≡ seen r.0 = cc in
     let code : y.code ≡ arm_code arena side (seen_entry kept) r.0 = ap (λ (z : Choice). z.code)
     is in
-    let by = or_right (same_colour mover side) true refl in
+    let by_codes = or_right (same_colour mover side) true refl in
     elim keeps.stands [
       | inl w ↦ inl (
         w,
         subst (λ c. is_win c ≡ true) (sym code) (keeps.win w).0,
-        ap (λ c. c + 2) code ∙ keeps.best_win by w,
+        ap (λ c. c + 2) code ∙ keeps.best_win by_codes w,
       )
-      | inr h ↦ inr (h, (let l = keeps.best_hold by h in omega (arith, code, l)))
+      | inr h ↦ inr (h, (let l = keeps.best_hold by_codes h in omega (arith, code, l)))
     ]
