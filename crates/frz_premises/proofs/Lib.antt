@@ -1,3 +1,4 @@
+pub mod Lemmas
 mod Listed
 mod FirstLines
 mod Exits

@@ -1,32 +1,48 @@
--- Tables whose own exit lines need no belief, from the left.
-use Rattle.std.proofs.Common.{List, [], ◌∷◌, ◌++◌, All}
+-- Tables whose own exit lines are true where what is believed holds, from the left.
+use Rattle.std.proofs.Common.{◌≡◌, ◌+◌, ℕ, List, [], ◌∷◌, ◌++◌, All, arith}
 use Rattle.std.proofs.lemmas.List.Elements.{All-nil, All-cons, All-push}
 use Rattle.frz_exits.specs.Books.{value_by}
 use Rattle.frz_game.specs.Values.{AreTrueExits}
 use Rattle.frz_chain.specs.Books.{Back}
 use Rattle.frz_backs.specs.Links.{Link, AreExact, AreExactOver, AreTrueLines}
 use Rattle.frz_backs.proofs.Lemmas.{TellsTrue, link_true}
-use Rattle.frz_premises.specs.Proved.{AreProved, AreProvedOver}
+use Rattle.frz_premises.specs.Believing.{BeliefsHold, BeliefsHoldOver, believed_in, believed_over}
 use Rattle.frz_premises.proofs.TableWords.{Proves, link_proves}
-use Rattle.frz_premises.proofs.TrueLines.{exits_true_by}
+use Rattle.frz_premises.proofs.TrueLines.{exits_true_by, none_holds}
 
 -- the lines of the text of a table are true
 abbrev HasTrueLines : Link → Type 0
 HasTrueLines link = AreTrueExits link.rules (value_by link.rules)
 
 text_by_text : (before : List Link) (backs : List Back) (links : List Link) → All Proves before →
-    All TellsTrue backs → AreExactOver backs links → AreProvedOver before links →
+    All TellsTrue backs → AreExactOver backs links → BeliefsHoldOver before links →
     AreTrueLines links
-unfolding AreExactOver AreProvedOver
-text_by_text before backs [] proves told exact proved = All-nil HasTrueLines
-text_by_text before backs (link ∷ links) proves told exact proved =
-    let mine = exits_true_by link.rules before proves proved.0 in
+unfolding AreExactOver BeliefsHoldOver
+text_by_text before backs [] proves told exact holds = All-nil HasTrueLines
+text_by_text before backs (link ∷ links) proves told exact holds =
+    let mine = exits_true_by link.rules before proves holds.0 in
     All-cons HasTrueLines link links mine
     (text_by_text (before ++ link ∷ []) (backs ++ (link.back ∷ [])) links
     (All-push Proves before link proves (link_proves link backs exact.0 told mine))
     (All-push TellsTrue backs link.back told (link_true link backs exact.0 told mine)) exact.1
-    proved.1)
+    holds.1)
 
-pub all_true : (links : List Link) → AreExact links → AreProved links → AreTrueLines links
-all_true links exact proved =
-    text_by_text [] [] links (All-nil Proves) (All-nil TellsTrue) exact proved
+pub all_true : (links : List Link) → AreExact links → BeliefsHold links → AreTrueLines links
+all_true links exact holds =
+    text_by_text [] [] links (All-nil Proves) (All-nil TellsTrue) exact holds
+
+-- none of two parts
+no_part : (m n : ℕ) → m + n ≡ 0 → (m ≡ 0) × (n ≡ 0)
+no_part m n h = (omega arith, omega arith)
+
+none_over : (before links : List Link) → believed_over before links ≡ 0 →
+    BeliefsHoldOver before links
+unfolding believed_over BeliefsHoldOver
+none_over before [] none = tt
+none_over before (link ∷ links) none =
+    let parts = no_part _ _ none in
+    (none_holds link.rules before parts.0, none_over (before ++ link ∷ []) links parts.1)
+
+-- where no line of the tables is believed, what is believed holds
+pub none_hold : (links : List Link) → believed_in links ≡ 0 → BeliefsHold links
+none_hold links none = none_over [] links none

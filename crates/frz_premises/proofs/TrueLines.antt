@@ -25,6 +25,7 @@ use Rattle.frz_backs.proofs.Lemmas.{exits_over_true}
 use Rattle.frz_premises.specs.declared.basis.Basis.{Basis}
 use Rattle.frz_premises.specs.declared.basis.Basis.TheVariants.{Believed}
 use Rattle.frz_premises.specs.Bases.{bases_of, basis_at, basis_of, believed_of, by_need, by_tables, is_believed, is_unknown}
+use Rattle.frz_premises.specs.Believing.{BeliefHolds}
 use Rattle.frz_premises.specs.Deciding.{decided_by, decides}
 use Rattle.frz_premises.specs.Saying.{none_says, says_as_much, says_at_each}
 use Rattle.frz_premises.specs.WaysOut.{outside_of}
@@ -158,10 +159,16 @@ not_believed rules links i line h there =
     none_counted is_believed (λ e. basis_of rules links e.0 e.1) 0 rules.exits i i line
     (omega arith) h there
 
--- so where no line is believed the exits are true
+-- where no line is believed, what is believed holds
+pub none_holds : (rules : RuleLines) (links : List Link) → believed_of rules links ≡ 0 →
+    BeliefHolds rules links
+none_holds rules links none i line q there h x d =
+    absurd (let no : true ≡ false = sym h ∙ not_believed rules links i line none there in cc)
+
+-- where what is believed holds, the exits are true
 pub exits_true_by : (rules : RuleLines) (links : List Link) → All Proves links →
-    believed_of rules links ≡ 0 → AreTrueExits rules (value_by rules)
-exits_true_by rules links proves none p m member legal outside =
+    BeliefHolds rules links → AreTrueExits rules (value_by rules)
+exits_true_by rules links proves holds p m member legal outside =
     let q = after p m in
     let x : IsExit (game_of rules (value_by rules)) q = record {
       from = p;
@@ -174,17 +181,19 @@ exits_true_by rules links proves none p m member legal outside =
     elim (first_cases rules.exits q) [
       | inl unknown ↦ subst (λ (v : Value). IsTrueValue v q) (sym unknown) tt
       | inr (i, line, d, first) ↦ subst (λ (v : Value). IsTrueValue v q) (sym first.value)
-          (line_true rules (value_by rules) links proves i line first.there
-          (not_believed rules links i line none first.there) q x d)
+          (elim (cases_Bool (is_believed (basis_of rules links i line))) [
+            | inl believed ↦ holds i line q first.there believed x d
+            | inr shown ↦ line_true rules (value_by rules) links proves i line first.there shown q x d
+          ])
     ]
 
-pub none_believed : (rules : RuleLines) (links : List Link) → AreExact links →
-    AreTrueLines links → believed_of rules links ≡ 0 → AreTrueExits rules (value_by rules)
-none_believed rules links exact own none =
-    exits_true_by rules links (all_prove links exact own) none
+pub true_where : (rules : RuleLines) (links : List Link) → AreExact links →
+    AreTrueLines links → BeliefHolds rules links → AreTrueExits rules (value_by rules)
+true_where rules links exact own holds =
+    exits_true_by rules links (all_prove links exact own) holds
 
-pub none_believed_over : (rules : RuleLines) (links : List Link) → AreExact links →
-    AreTrueLines links → believed_of rules links ≡ 0 →
+pub true_over : (rules : RuleLines) (links : List Link) → AreExact links →
+    AreTrueLines links → BeliefHolds rules links →
     AreTrueExits rules (atlas_value rules (backs_of links))
-none_believed_over rules links exact own none =
-    exits_over_true rules links exact own (none_believed rules links exact own none)
+true_over rules links exact own holds =
+    exits_over_true rules links exact own (true_where rules links exact own holds)

@@ -23,7 +23,8 @@ use Rattle.frz_premises.specs.declared.basis.Basis.{Basis}
 use Rattle.frz_premises.specs.declared.trial.Trial.{Trial}
 use Rattle.frz_premises.specs.Bases.{bases_of, basis_at, basis_of, by_need, by_tables, by_text}
 use Rattle.frz_premises.specs.Deciding.{decided_by, decides, is_place, line_at}
-use Rattle.frz_premises.specs.Saying.{loaded_link, none_says, says_as_much, says_at_each}
+use Rattle.frz_backs.specs.Loaded.{link_loaded}
+use Rattle.frz_premises.specs.Saying.{none_says, says_as_much, says_at_each}
 use Rattle.frz_premises.specs.Trials.{AreTried, IsHeard, IsTried, boards_after, is_outside, is_some_there}
 use Rattle.frz_premises.proofs.FirstLines.{decides_first}
 
@@ -72,30 +73,30 @@ one_more v qs q link =
 
 pub says_more : (v : Value) (qs : List Board) (q : Board) (backs : List BackTable)
     (old new : List Bool) → length new ≡ length backs →
-    old ≡ map (says_at_each v qs) (map loaded_link backs) →
+    old ≡ map (says_at_each v qs) (map link_loaded backs) →
     ((k : ℕ) (back : BackTable) → k < length backs → get_or new k false
-    ≡ (get_or old k false && says_as_much v (loaded_link (get_or backs k back)) q)) →
-    new ≡ map (says_at_each v (qs ++ q ∷ [])) (map loaded_link backs)
+    ≡ (get_or old k false && says_as_much v (link_loaded (get_or backs k back)) q)) →
+    new ≡ map (says_at_each v (qs ++ q ∷ [])) (map link_loaded backs)
 says_more v qs q [] old [] many was heard = refl
 says_more v qs q [] old (b ∷ new) many was heard = absurd (omega arith)
 says_more v qs q (first ∷ backs) old new many was heard =
     let all = first ∷ backs in
-    let links = map loaded_link all in
+    let links = map link_loaded all in
     ext_get_or false new (map (says_at_each v (qs ++ q ∷ [])) links)
     (many ∙ sym (length-map links (says_at_each v (qs ++ q ∷ []))
-    ∙ length-map all loaded_link))
+    ∙ length-map all link_loaded))
     (λ i l. (
     let here : i < length all = omega arith in
-    let there : i < length links = omega (arith, length-map all loaded_link) in
-    let link = get_or links i (loaded_link first) in
-    let is : link ≡ loaded_link (get_or all i first) =
-    get_or-map loaded_link all i first (loaded_link first) here in
+    let there : i < length links = omega (arith, length-map all link_loaded) in
+    let link = get_or links i (link_loaded first) in
+    let is : link ≡ link_loaded (get_or all i first) =
+    get_or-map link_loaded all i first (link_loaded first) here in
     heard i first here
     ∙ ap₂ ◌&&◌ (ap (λ (bs : List Bool). get_or bs i false) was
-    ∙ get_or-map (says_at_each v qs) links i (loaded_link first) false there)
+    ∙ get_or-map (says_at_each v qs) links i (link_loaded first) false there)
     (ap (λ (k : Link). says_as_much v k q) (sym is))
     ∙ sym (one_more v qs q link)
-    ∙ sym (get_or-map (says_at_each v (qs ++ q ∷ [])) links i (loaded_link first) false there)))
+    ∙ sym (get_or-map (says_at_each v (qs ++ q ∷ [])) links i (link_loaded first) false there)))
 
 -- one exit noted for a line
 any_mapped : {X Y : Type 0} (f : Y → Bool) (g : X → Y) (xs : List X) →
@@ -115,65 +116,65 @@ some_by (Some x) r h e = (x, refl)
 module _ (backs : List BackTable) (line : ExitLine) (qs : List Board) (q : Board)
     (old new : Trial) where
   -- after an exit that needs belief nothing is heard
-  pub stays_heard : IsHeard (map loaded_link backs) line qs old → (first : Board) →
+  pub stays_heard : IsHeard (map link_loaded backs) line qs old → (first : Board) →
       old.need ≡ Some first → new.need ≡ old.need →
-      IsHeard (map loaded_link backs) line (qs ++ q ∷ []) new
+      IsHeard (map link_loaded backs) line (qs ++ q ∷ []) new
   stays_heard heard first some same = record {
-    need = same ∙ some ∙ need_stays (map loaded_link backs) line.value qs q first
+    need = same ∙ some ∙ need_stays (map link_loaded backs) line.value qs q first
         (sym some ∙ heard.need);
     says = λ none. absurd (let e : None ≡ Some first = sym none ∙ (same ∙ some) in cc);
   }
 
-  module _ (v : Value) (is : line.value ≡ v) (heard : IsHeard (map loaded_link backs) line qs old)
+  module _ (v : Value) (is : line.value ≡ v) (heard : IsHeard (map link_loaded backs) line qs old)
       (none : old.need ≡ None) where
     -- some table says as much
     pub said_heard : new.need ≡ old.need →
-        true ≡ list_any (λ back. says_as_much v (loaded_link back) q) backs →
+        true ≡ list_any (λ back. says_as_much v (link_loaded back) q) backs →
         length new.says.items ≡ length backs →
         ((k : ℕ) (back : BackTable) → k < length backs → get_or new.says.items k false
         ≡ (get_or old.says.items k false
-        && says_as_much v (loaded_link (get_or backs k back)) q)) →
-        IsHeard (map loaded_link backs) line (qs ++ q ∷ []) new
+        && says_as_much v (link_loaded (get_or backs k back)) q)) →
+        IsHeard (map link_loaded backs) line (qs ++ q ∷ []) new
     said_heard same told many each =
-        let P : Value → Type 0 = λ x. true ≡ list_any (λ back. says_as_much x (loaded_link back) q)
+        let P : Value → Type 0 = λ x. true ≡ list_any (λ back. says_as_much x (link_loaded back) q)
         backs in
         let Q : Value → Type 0 = λ x. (k : ℕ) (back : BackTable) → k < length backs →
         get_or new.says.items k false ≡ (get_or old.says.items k false
-        && says_as_much x (loaded_link (get_or backs k back)) q) in
+        && says_as_much x (link_loaded (get_or backs k back)) q) in
         record {
-          need = same ∙ none ∙ none_needs (map loaded_link backs) line.value qs q
+          need = same ∙ none ∙ none_needs (map link_loaded backs) line.value qs q
               (sym none ∙ heard.need)
               (subst P (sym is) told
-              ∙ any_mapped (λ link. says_as_much line.value link q) loaded_link backs);
+              ∙ any_mapped (λ link. says_as_much line.value link q) link_loaded backs);
           says = λ still. says_more line.value qs q backs old.says.items new.says.items many
               (heard.says none) (subst Q (sym is) each);
         }
 
     -- none does
     pub needs_here : new.need ≡ Some q →
-        false ≡ list_any (λ back. says_as_much v (loaded_link back) q) backs →
-        IsHeard (map loaded_link backs) line (qs ++ q ∷ []) new
+        false ≡ list_any (λ back. says_as_much v (link_loaded back) q) backs →
+        IsHeard (map link_loaded backs) line (qs ++ q ∷ []) new
     needs_here here told =
         let P : Value → Type 0 = λ x. false ≡ list_any
-        (λ back. says_as_much x (loaded_link back) q) backs in
+        (λ back. says_as_much x (link_loaded back) q) backs in
         record {
-          need = here ∙ this_needs (map loaded_link backs) line.value qs q
+          need = here ∙ this_needs (map link_loaded backs) line.value qs q
               (sym none ∙ heard.need)
               (subst P (sym is) told
-              ∙ any_mapped (λ link. says_as_much line.value link q) loaded_link backs);
+              ∙ any_mapped (λ link. says_as_much line.value link q) link_loaded backs);
           says = λ still. absurd (let e : None ≡ Some q = sym still ∙ here in cc);
         }
 
-  pub noted : (groups : List GroupLine) → IsTried groups (map loaded_link backs) line qs old →
+  pub noted : (groups : List GroupLine) → IsTried groups (map link_loaded backs) line qs old →
       new.settled ≡ old.settled → new.has_exits ≡ true →
       length new.says.items ≡ length backs →
-      (old.settled ≡ None → IsHeard (map loaded_link backs) line qs old →
-      IsHeard (map loaded_link backs) line (qs ++ q ∷ []) new) →
-      IsTried groups (map loaded_link backs) line (qs ++ q ∷ []) new
+      (old.settled ≡ None → IsHeard (map link_loaded backs) line qs old →
+      IsHeard (map link_loaded backs) line (qs ++ q ∷ []) new) →
+      IsTried groups (map link_loaded backs) line (qs ++ q ∷ []) new
   noted groups tried same some many step = record {
     settled = same ∙ tried.settled;
     has_exits = some ∙ sym (some_more qs q);
-    many = many ∙ sym (length-map backs loaded_link);
+    many = many ∙ sym (length-map backs link_loaded);
     heard = λ none. step (sym same ∙ none) (tried.heard (sym same ∙ none));
   }
 

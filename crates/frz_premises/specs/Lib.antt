@@ -4,6 +4,6 @@ pub mod Deciding
 pub mod Saying
 pub mod Bases
 pub mod Trials
-pub mod Proved
+pub mod Believing
 pub mod Sides
 pub mod Needs

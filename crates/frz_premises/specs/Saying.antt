@@ -8,26 +8,7 @@ use Rattle.frz_sets.specs.declared.exit.Value.{Value}
 use Rattle.frz_sets.specs.declared.exit.Value.TheVariants.{WhiteWins, BlackWins, Draw, WhiteHolds, BlackHolds, Unknown, WhiteWinsIn, BlackWinsIn}
 use Rattle.frz_index.specs.Membership.{number_of}
 use Rattle.frz_arena.specs.Codes.{is_win}
-use Rattle.frz_table.specs.declared.kind.FileKind.{FileKind}
-use Rattle.frz_table.specs.declared.kind.FileKind.TheVariants.{Plain, Chained, Atlas}
-use Rattle.frz_chain.specs.FileOn.{loaded_back}
-use Rattle.frz_chain.specs.declared.back.BackTable.{BackTable}
 use Rattle.frz_backs.specs.Links.{Link}
-
--- a table of this kind leans on others, which tell the values of exits of which its lines say
--- nothing
-abbrev pub leans_as : FileKind → Bool
-leans_as Plain = false
-leans_as Chained = true
-leans_as Atlas = true
-
--- the table that was loaded, with the rules of its text, and whether it leans on others
-abbrev pub loaded_link : BackTable → Link
-loaded_link back = record {
-  rules = back.table.rules;
-  leans = leans_as back.table.kind;
-  back = loaded_back back;
-}
 
 -- the value says that the side wins, but not in how many plies
 abbrev pub is_uncounted : Value → Colour → Bool

@@ -21,9 +21,9 @@ ghost use Rattle.frz_backs.specs.Values.{atlas_value};
 ghost use Rattle.frz_premises.specs.declared.basis.Basis.TheVariants.{Believed};
 ghost use Rattle.frz_premises.specs.declared.sides.Strength.TheVariants.{Outcomes, Exact};
 ghost use Rattle.frz_premises.specs.Bases.{basis_of, believed_of, is_believed};
+ghost use Rattle.frz_premises.specs.Believing.{BeliefHolds, BeliefsHold, believed_in};
 ghost use Rattle.frz_premises.specs.Deciding.{decides};
 ghost use Rattle.frz_premises.specs.Needs.{NeedsBelief};
-ghost use Rattle.frz_premises.specs.Proved.{AreProved};
 ghost use Rattle.frz_premises.specs.Sides.{exits_tell, strength_of};
 ghost use Rattle.frz_premises.specs.WaysOut.{outside_of};
 
@@ -58,20 +58,27 @@ pub fn believed_exits()
         NeedsBelief rules value links i line q }
 {}
 
-/// If no exit line is believed, the exits are true: by the exit lines alone, and with the tables
+/// The exits are true where what is believed holds: by the exit lines alone, and with the tables
 /// behind them.
-pub fn none_believed()
+pub fn true_where_belief_holds()
     ensures lines { (rules : RuleLines) (links : List Link) → AreExact links →
-        AreTrueLines links → believed_of rules links ≡ 0 → AreTrueExits rules (value_by rules) }
+        AreTrueLines links → BeliefHolds rules links → AreTrueExits rules (value_by rules) }
     ensures atlas { (rules : RuleLines) (links : List Link) → AreExact links →
-        AreTrueLines links → believed_of rules links ≡ 0 →
+        AreTrueLines links → BeliefHolds rules links →
         AreTrueExits rules (atlas_value rules (backs_of links)) }
 {}
 
-/// If no exit line of the tables is believed, each with those tables before it, all these lines are
-/// true.
+/// The lines of the tables are true where what is believed holds, of each table with those before
+/// it.
 pub fn tables_are_true()
-    ensures { (links : List Link) → AreExact links → AreProved links → AreTrueLines links }
+    ensures { (links : List Link) → AreExact links → BeliefsHold links → AreTrueLines links }
+{}
+
+/// Where no line is believed, what is believed holds.
+pub fn none_believed()
+    ensures rules { (rules : RuleLines) (links : List Link) → believed_of rules links ≡ 0 →
+        BeliefHolds rules links }
+    ensures tables { (links : List Link) → believed_in links ≡ 0 → BeliefsHold links }
 {}
 
 /// What the strength of a side means, where the exits are true: with `Outcomes` and `Exact` the

@@ -6,7 +6,7 @@ ghost use Rattle.frz_sets.specs.Views.{RuleLines};
 ghost use Rattle.frz_backs.specs.Links.{Link};
 ghost use Rattle.frz_premises.specs.Bases.{bases_of};
 ghost use Rattle.frz_premises.specs.Needs.{HasValidNeed};
-ghost use Rattle.frz_premises.specs.Saying.{loaded_link};
+ghost use Rattle.frz_backs.specs.Loaded.{link_loaded};
 ghost use Rattle.frz_premises.specs.Trials.{AreTried};
 ghost use Rattle.frz_premises.specs.WaysOut.{outside_of};
 
@@ -67,7 +67,7 @@ pub fn premises_of<L: Ledger>(
     requires sound { IsSound rules.now }
     requires fits { set.now ≡ rules.now.groups }
     ensures bases { IfOk result
-        (λ bases. bases.items ≡ bases_of rules.now (map loaded_link backs.now)) }
+        (λ bases. bases.items ≡ bases_of rules.now (map link_loaded backs.now)) }
     ensures valid { IfOk result (λ bases. All HasValidNeed bases.items) }
     ensures steps { steps.new ≤ steps.old + size_of rules.now.groups }
     ensures later { steps.old ≤ steps.new }

@@ -3,7 +3,7 @@ ghost use Rattle.std.specs.Prelude.{◌≡◌};
 ghost use Rattle.std.specs.List.{list_any};
 ghost use Rattle.frz_fide.specs.Valid.{IsValid};
 ghost use Rattle.frz_premises.specs.Saying as words;
-ghost use Rattle.frz_premises.specs.Saying.{loaded_link};
+ghost use Rattle.frz_backs.specs.Loaded.{leans_as, link_loaded};
 
 use frz_arena::is_win;
 use frz_bits::Bitboards;
@@ -28,11 +28,11 @@ fn is_uncounted(value: Value, side: Colour) -> bool
 
 /// Does a table of this kind lean on others?
 fn leans(kind: FileKind) -> bool
-    ensures { result ≡ words.leans_as kind }
+    ensures { result ≡ leans_as kind }
 {
     match kind {
-        FileKind::Plain => false,
-        _ => true,
+        FileKind::Atlas => true,
+        _ => false,
     }
 }
 
@@ -45,7 +45,7 @@ fn leaves_uncounted(lines: &[Exit], side: Colour) -> bool
 
 /// Are the plies of the side's wins in the table plies to mate?
 fn counts_wins(back: &BackTable, side: Colour) -> bool
-    ensures { result ≡ words.counts_wins (loaded_link back.now) side }
+    ensures { result ≡ words.counts_wins (link_loaded back.now) side }
 {
     !(leans(back.table.kind()) || leaves_uncounted(&back.table.rules().exits, side))
 }
@@ -66,7 +66,7 @@ fn wins_within(plies: u32, code: u32) -> bool
 
 /// Do these two codes of the table, White's and Black's, say at least as much as the value?
 fn codes_say(back: &BackTable, white: u32, black: u32, value: Value) -> bool
-    ensures { result ≡ words.codes_say (loaded_link back.now) white black value }
+    ensures { result ≡ words.codes_say (link_loaded back.now) white black value }
 {
     match value {
         Value::WhiteWins => is_win(white),
@@ -84,7 +84,7 @@ fn codes_say(back: &BackTable, white: u32, black: u32, value: Value) -> bool
 /// value?
 pub fn says_as_much(value: Value, back: &BackTable, q: &Bitboards) -> bool
     requires { IsValid q.now }
-    ensures { result ≡ words.says_as_much value (loaded_link back.now) q.now }
+    ensures { result ≡ words.says_as_much value (link_loaded back.now) q.now }
 {
     match back.table.set().number_on(q) {
         Some(i) => codes_say(back, back.white[i as usize], back.black[i as usize], value),

@@ -8,7 +8,7 @@ ghost use Rattle.frz_backs.specs.Links.{Link};
 ghost use Rattle.frz_chain.specs.declared.back.BackTable.{BackTable as Table};
 ghost use Rattle.frz_premises.specs.Bases as words;
 ghost use Rattle.frz_premises.specs.Saying as saying;
-ghost use Rattle.frz_premises.specs.Saying.{loaded_link};
+ghost use Rattle.frz_backs.specs.Loaded.{link_loaded};
 
 use crate::basis::Basis;
 use crate::men::by_text;
@@ -36,10 +36,10 @@ fn hear(says: &mut [bool], value: Value, backs: &[BackTable], q: &Bitboards) -> 
     requires valid { IsValid q.now }
     requires many { length says.old ≡ length backs.now }
     ensures said { result
-        ≡ list_any (λ back. saying.says_as_much value (loaded_link back) q.now) backs.now }
+        ≡ list_any (λ back. saying.says_as_much value (link_loaded back) q.now) backs.now }
     ensures heard { (k : ℕ) (back : Table) → k < length backs.now →
         slice_index_or says.new k false ≡ (slice_index_or says.old k false
-        && saying.says_as_much value (loaded_link (slice_index_or backs.now k back)) q.now) }
+        && saying.says_as_much value (link_loaded (slice_index_or backs.now k back)) q.now) }
 {
     let mut said = false;
     for (k, back) in backs.iter().enumerate() {
@@ -96,8 +96,8 @@ impl Trial {
         requires valid { IsValid q.now }
         requires many { length self.old.says.items ≡ length backs.now }
         ensures { (groups : List GroupLine) (line : ExitLine) (qs : List Board) →
-            line.value ≡ value → IsTried groups (map loaded_link backs.now) line qs self.old →
-            IsTried groups (map loaded_link backs.now) line (qs ++ q.now ∷ []) self.new }
+            line.value ≡ value → IsTried groups (map link_loaded backs.now) line qs self.old →
+            IsTried groups (map link_loaded backs.now) line (qs ++ q.now ∷ []) self.new }
     {
         self.has_exits = true;
         if self.settled.is_none() && self.need.is_none() {

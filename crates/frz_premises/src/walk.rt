@@ -7,7 +7,7 @@ ghost use Rattle.frz_sets.specs.Sets.{size_of};
 ghost use Rattle.frz_sets.specs.Sound.{IsSound};
 ghost use Rattle.frz_exits.specs.Conditions.{conditions_hold};
 ghost use Rattle.frz_premises.specs.Deciding as deciding;
-ghost use Rattle.frz_premises.specs.Saying.{loaded_link};
+ghost use Rattle.frz_backs.specs.Loaded.{link_loaded};
 ghost use Rattle.frz_premises.specs.Trials.{AreTried, boards_after};
 ghost use Rattle.frz_premises.specs.WaysOut.{outside_below, outside_of};
 
@@ -43,9 +43,9 @@ fn note(trials: &mut [Trial], rules: &Rules, backs: &[BackTable], q: &Bitboards)
     requires valid { IsValid q.now }
     requires sound { IsSound rules.now }
     requires tried { (qs : List Board)
-        × AreTried rules.now (map loaded_link backs.now) qs trials.old }
-    ensures { (qs : List Board) → AreTried rules.now (map loaded_link backs.now) qs trials.old →
-        AreTried rules.now (map loaded_link backs.now) (qs ++ q.now ∷ []) trials.new }
+        × AreTried rules.now (map link_loaded backs.now) qs trials.old }
+    ensures { (qs : List Board) → AreTried rules.now (map link_loaded backs.now) qs trials.old →
+        AreTried rules.now (map link_loaded backs.now) (qs ++ q.now ∷ []) trials.new }
 {
     if let Some(i) = line_at(&rules.exits, q) {
         let value = rules.exits[i].value;
@@ -59,9 +59,9 @@ fn note_arm(trials: &mut [Trial], rules: &Rules, backs: &[BackTable], p: &Bitboa
     requires sound { IsSound rules.now }
     requires legal { is_legal p.now arm.mv ≡ true }
     requires tried { (qs : List Board)
-        × AreTried rules.now (map loaded_link backs.now) qs trials.old }
-    ensures { (qs : List Board) → AreTried rules.now (map loaded_link backs.now) qs trials.old →
-        AreTried rules.now (map loaded_link backs.now) (qs ++ boards_after p.now (arm ∷ []))
+        × AreTried rules.now (map link_loaded backs.now) qs trials.old }
+    ensures { (qs : List Board) → AreTried rules.now (map link_loaded backs.now) qs trials.old →
+        AreTried rules.now (map link_loaded backs.now) (qs ++ boards_after p.now (arm ∷ []))
         trials.new }
 {
     if let Next::Outside(_) = arm.next {
@@ -75,9 +75,9 @@ fn note_all(trials: &mut [Trial], rules: &Rules, backs: &[BackTable], p: &Bitboa
     requires sound { IsSound rules.now }
     requires legal { All (λ a. is_legal p.now a.mv ≡ true) arms.now }
     requires tried { (qs : List Board)
-        × AreTried rules.now (map loaded_link backs.now) qs trials.old }
-    ensures { (qs : List Board) → AreTried rules.now (map loaded_link backs.now) qs trials.old →
-        AreTried rules.now (map loaded_link backs.now) (qs ++ boards_after p.now arms.now)
+        × AreTried rules.now (map link_loaded backs.now) qs trials.old }
+    ensures { (qs : List Board) → AreTried rules.now (map link_loaded backs.now) qs trials.old →
+        AreTried rules.now (map link_loaded backs.now) (qs ++ boards_after p.now arms.now)
         trials.new }
 {
     for arm in arms {
@@ -95,9 +95,9 @@ fn look<L: Ledger>(
     steps: &mut Steps<L>,
 )
     requires sound { IsSound game.now.rules.now }
-    requires tried { AreTried game.now.rules.now (map loaded_link backs.now)
+    requires tried { AreTried game.now.rules.now (map link_loaded backs.now)
         (outside_below game.now.rules.now.groups number) trials.old }
-    ensures tried { AreTried game.now.rules.now (map loaded_link backs.now)
+    ensures tried { AreTried game.now.rules.now (map link_loaded backs.now)
         (outside_below game.now.rules.now.groups (number + 1)) trials.new }
     ensures step { steps.new ≤ steps.old + 1 }
     ensures later { steps.old ≤ steps.new }
@@ -116,8 +116,8 @@ pub fn walk<L: Ledger>(
     steps: &mut Steps<L>,
 )
     requires sound { IsSound game.now.rules.now }
-    requires tried { AreTried game.now.rules.now (map loaded_link backs.now) [] trials.old }
-    ensures tried { AreTried game.now.rules.now (map loaded_link backs.now)
+    requires tried { AreTried game.now.rules.now (map link_loaded backs.now) [] trials.old }
+    ensures tried { AreTried game.now.rules.now (map link_loaded backs.now)
         (outside_of game.now.rules.now.groups) trials.new }
     ensures steps { steps.new ≤ steps.old + size_of game.now.rules.now.groups }
     ensures later { steps.old ≤ steps.new }

@@ -6,7 +6,7 @@ use Rattle.frz_premises.specs.declared.basis.Basis.{Basis}
 use Rattle.frz_premises.specs.declared.trial.Trial.{Trial}
 use Rattle.frz_premises.specs.Bases.{bases_of}
 use Rattle.frz_premises.specs.Needs.{HasValidNeed}
-use Rattle.frz_premises.specs.Saying.{loaded_link}
+use Rattle.frz_backs.specs.Loaded.{link_loaded}
 use Rattle.frz_premises.specs.Trials.{AreTried}
 use Rattle.frz_premises.specs.WaysOut.{outside_of}
 use Rattle.frz_premises.proofs.Needs.{valid_needs}
@@ -16,17 +16,17 @@ use Rattle.frz_premises.proofs.premises.premises_of.Goals as goal
 pub walk-requires-clause-tried : goal.walk-requires-clause-tried
 walk-requires-clause-tried g c =
     let rules = c.args.rules.now in
-    let links = map loaded_link c.args.backs.now in
+    let links = map link_loaded c.args.backs.now in
     subst (λ (ts : List Trial). AreTried rules links [] ts) (sym c.deref_mut.ensures.value)
     (c.in_ok-trials.ensures rules links
     (sym (c.as_slice-groups.ensures.value ∙ ap (λ (r : RuleLines). r.groups) c.rules.view_is))
     (sym (c.as_slice-lines.ensures.value ∙ ap (λ (r : RuleLines). r.exits) c.rules.view_is))
-    (length-map c.args.backs.now loaded_link))
+    (length-map c.args.backs.now link_loaded))
 
 pub returns-clause-bases : goal.returns-clause-bases
 returns-clause-bases g c =
     let rules = c.args.rules.now in
-    let links = map loaded_link c.args.backs.now in
+    let links = map link_loaded c.args.backs.now in
     let items = with_items_is c.in_ok-trials.trials c.walk.new.trials (omega arith) in
     let tried = subst (λ (ts : List Trial). AreTried rules links (outside_of rules.groups) ts)
     (sym (c.deref.ensures.value ∙ items)) c.walk.ensures.tried in
@@ -38,7 +38,7 @@ returns-clause-bases g c =
 pub returns-clause-valid : goal.returns-clause-valid
 returns-clause-valid g c =
     let rules = c.args.rules.now in
-    let links = map loaded_link c.args.backs.now in
+    let links = map link_loaded c.args.backs.now in
     let items = with_items_is c.in_ok-trials.trials c.walk.new.trials (omega arith) in
     let tried = subst (λ (ts : List Trial). AreTried rules links (outside_of rules.groups) ts)
     (sym (c.deref.ensures.value ∙ items)) c.walk.ensures.tried in

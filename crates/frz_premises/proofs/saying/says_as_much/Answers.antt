@@ -4,7 +4,8 @@ use Rattle.frz_board.specs.Boards.{Board}
 use Rattle.frz_sets.specs.Views.{GroupLine}
 use Rattle.frz_index.specs.Membership.{number_of}
 use Rattle.frz_chain.proofs.Lemmas.{number_below}
-use Rattle.frz_premises.specs.Saying.{codes_say, loaded_link, says_as_much, says_at}
+use Rattle.frz_backs.specs.Loaded.{link_loaded}
+use Rattle.frz_premises.specs.Saying.{codes_say, says_as_much, says_at}
 use Rattle.frz_premises.proofs.saying.says_as_much.Goals as goal
 
 -- what the set answers is what the groups of the table give
@@ -38,7 +39,7 @@ returns-in-Some c =
     let back = c.args.back.now in
     let i = c.in-Some.i in
     let q = c.args.q.now in
-    let link = loaded_link back in
+    let link = link_loaded back in
     let has = by_groups q (Some i) c.set.result.now back.table.rules.groups
     c.in-Some.ensures.function c.set.ensures in
     let below = number_below back.table.rules.groups q i has in
@@ -63,4 +64,4 @@ returns-in-None c =
     let back = c.args.back.now in
     let lacks = by_groups c.args.q.now None c.set.result.now back.table.rules.groups
     c.in-None.ensures.function c.set.ensures in
-    ap (says_at c.args.value (loaded_link back)) lacks
+    ap (says_at c.args.value (link_loaded back)) lacks

@@ -2,7 +2,7 @@ use Rattle.std.proofs.Common.{◌≡◌, ◌∙◌, ◌<◌, List, Some, map, re
 use Rattle.std.proofs.lemmas.List.{get_or_read_under, length-map}
 use Rattle.frz_sets.specs.Views.{ExitLine, RuleLines}
 use Rattle.frz_premises.specs.Deciding.{decided_by, line_at}
-use Rattle.frz_premises.specs.Saying.{loaded_link}
+use Rattle.frz_backs.specs.Loaded.{link_loaded}
 use Rattle.frz_premises.proofs.Trying.{none_decides, one_decides, place_below}
 use Rattle.frz_premises.proofs.walk.note.Goals as goal
 use Rattle.frz_premises.proofs.walk.note.Goals.{In-Some}
@@ -43,13 +43,13 @@ note-requires-clause-many c =
     let tried = c.requires.tried.1 in
     let many = tried.many in
     (tried.each c.in-Some.i line.0 c.index-trials-i.result (omega (arith, low, many))).many
-    ∙ length-map c.args.backs.now loaded_link
+    ∙ length-map c.args.backs.now link_loaded
 
 pub returns-in-Some : goal.returns-in-Some
 returns-in-Some c qs tried =
     let d = (goal.at.returns-in-Some c).In-Some in
     let rules = c.args.rules.now in
-    let links = map loaded_link c.args.backs.now in
+    let links = map link_loaded c.args.backs.now in
     let q = c.args.q.now in
     let i = c.in-Some.i in
     let low = (below d).1 in
@@ -72,5 +72,5 @@ returns-in_default c qs tried =
     let none = sym c.in_default.is ∙ c.line_at.ensures
     ∙ ap (λ (ls : List ExitLine). line_at ls c.args.q.now)
     (c.deref.ensures.value ∙ ap (λ (r : RuleLines). r.exits) c.rules.view_is) in
-    none_decides c.args.rules.now (map loaded_link c.args.backs.now) qs c.args.q.now
+    none_decides c.args.rules.now (map link_loaded c.args.backs.now) qs c.args.q.now
     c.args.trials.now tried none

@@ -1,6 +1,6 @@
 use Rattle.std.proofs.Common.{◌≡◌, ◌∙◌, ℕ, map, ap, subst, arith}
 use Rattle.frz_sets.specs.Sets.{size_of}
-use Rattle.frz_premises.specs.Saying.{loaded_link}
+use Rattle.frz_backs.specs.Loaded.{link_loaded}
 use Rattle.frz_premises.specs.Trials.{AreTried}
 use Rattle.frz_premises.specs.WaysOut.{outside_below}
 use Rattle.frz_premises.proofs.walk.walk.Goals as goal
@@ -28,5 +28,5 @@ returns-clause-tried g c =
     let size_is : c.size-number-end.result ≡ size_of rules.groups = c.size-number-end.ensures.size
     ∙ ap size_of c.args.game.now.fits in
     let end : c.loop-number.number ≡ size_of rules.groups = omega arith in
-    subst (λ (k : ℕ). AreTried rules (map loaded_link c.args.backs.now)
+    subst (λ (k : ℕ). AreTried rules (map link_loaded c.args.backs.now)
     (outside_below rules.groups k) c.loop-number.trials) end c.loop-number.invariant.tried

@@ -2,7 +2,8 @@ use Rattle.std.proofs.Common.{◌≡◌, ◌∙◌, ◌&&◌, List, Bool, true, 
 use Rattle.std.specs.Vec.{with_items}
 use Rattle.std.proofs.lemmas.List.{with_items_is}
 use Rattle.frz_premises.specs.declared.trial.Trial.{Trial}
-use Rattle.frz_premises.specs.Saying.{loaded_link, says_as_much}
+use Rattle.frz_backs.specs.Loaded.{link_loaded}
+use Rattle.frz_premises.specs.Saying.{says_as_much}
 use Rattle.frz_premises.proofs.Trying.{needs_here, none_by, noted, said_heard, some_by, stays_heard}
 use Rattle.frz_premises.proofs.trial.Trial.note.Goals as goal
 use Rattle.frz_premises.proofs.trial.Trial.note.Goals.{else-is_none-via-then-is_none+else-is_none-2, else-is_none-via-else-is_none}
@@ -53,7 +54,7 @@ returns-else-not-said c groups line qs is tried =
     (λ k back l. ap (λ (xs : List Bool). get_or xs k false) items
     ∙ c.hear-said.ensures.heard k back l
     ∙ ap (λ (xs : List Bool). get_or xs k false
-    && says_as_much c.args.value (loaded_link (get_or backs k back)) q)
+    && says_as_much c.args.value (link_loaded (get_or backs k back)) q)
     c.deref_mut.ensures.value))
 
 pub returns-else-is_none : goal.returns-else-is_none
