@@ -1,5 +1,5 @@
 -- The exit that is told of a believed line is the first that needs belief.
-use Rattle.std.proofs.Common.{◌≡◌, ℕ, inl, inr, Bool, true, false, List, [], ◌∷◌, All, get_or, Option, Some, None, refl, sym, subst, ap, ◌∙◌}
+use Rattle.std.proofs.Common.{◌≡◌, ◌<◌, ◌+◌, ℕ, inl, inr, length, arith, Bool, true, false, List, [], ◌∷◌, All, get_or, Option, Some, None, refl, sym, subst, ap, ◌∙◌}
 use Rattle.std.specs.Prelude.{find}
 use Rattle.std.specs.List.{Contains, enumerate_from, list_any, position_from}
 use Rattle.std.proofs.lemmas.Bool.{cases_Bool, not-true}
@@ -20,7 +20,7 @@ use Rattle.frz_premises.specs.declared.basis.Basis.{Basis}
 use Rattle.frz_premises.specs.declared.basis.Basis.TheVariants.{AsksNothing, ByMen, ByTable, ByTables, Believed}
 use Rattle.frz_premises.specs.Bases.{bases_of, basis_at, basis_of, by_need, by_tables, is_unknown}
 use Rattle.frz_premises.specs.Deciding.{decided_by, decides}
-use Rattle.frz_premises.specs.Needs.{HasValidNeed, NeedsBelief}
+use Rattle.frz_premises.specs.Needs.{IsTellable, NeedsBelief}
 use Rattle.frz_premises.specs.Saying.{none_says, says_as_much, says_at_each}
 use Rattle.frz_premises.specs.WaysOut.{outside_of}
 use Rattle.frz_premises.proofs.Exits.{unlisted}
@@ -89,21 +89,57 @@ exit_valid rules value q x =
     let v = (member_of rules.groups x.from x.begins).valid in
     subst IsValid x.ends (valid_after x.from x.move v l.0.to l.1)
 
+-- and the table that is told is one of those that are there
+place_is : (need : Option Board) (place : Option ℕ) (k : ℕ) →
+    by_need need place ≡ ByTable k → place ≡ Some k
+place_is (Some first) place k h = absurd (cc)
+place_is None (Some j) k h = let same : j ≡ k = cc in ap Some same
+place_is None None k h = absurd (cc)
+
+place_below : {X : Type 0} (test : X → Bool) (n : ℕ) (xs : List X) (k : ℕ) →
+    position_from test n xs ≡ Some k → k < n + length xs
+place_below test n [] k h = absurd (cc)
+place_below test n (x ∷ xs) k h =
+    elim (cases_Bool (test x)) [
+      | inl passes ↦ (let e : Some n ≡ Some k = rw passes at h in
+          let same : n ≡ k = cc in omega arith)
+      | inr fails ↦ (let e : position_from test (n + 1) xs ≡ Some k = rw fails at h in
+          let below = place_below test (n + 1) xs k e in omega arith)
+    ]
+
+told_table : (groups : List GroupLine) (links : List Link) (line : ExitLine) (qs : List Board)
+    (k : ℕ) → basis_at groups links line qs ≡ ByTable k → k < length links
+told_table groups links line [] k h = absurd (cc)
+told_table groups links line (first ∷ qs) k h =
+    elim (cases_Bool (is_unknown line.value)) [
+      | inl unknown ↦ absurd (let e : AsksNothing ≡ ByTable k = rw unknown at h in cc)
+      | inr known ↦ elim (cases_Bool (is_true_by groups line.conds line.value)) [
+        | inl men ↦ absurd (let e : ByMen ≡ ByTable k = rw (known, men) at h in cc)
+        | inr asked ↦ (
+            let e : by_tables links line.value (first ∷ qs) ≡ ByTable k =
+            rw (known, asked) at h in
+            let below = place_below (says_at_each line.value (first ∷ qs)) 0 links k
+            (place_is (find (none_says links line.value) (first ∷ qs))
+            (position_from (says_at_each line.value (first ∷ qs)) 0 links) k e) in omega arith)
+      ]
+    ]
+
 by_basis : (rules : RuleLines) (links : List Link) (i : ℕ) (line : ExitLine) (b : Basis) →
-    basis_of rules links i line ≡ b → HasValidNeed b
+    basis_of rules links i line ≡ b → IsTellable (length links) b
 by_basis rules links i line AsksNothing e = tt
 by_basis rules links i line ByMen e = tt
-by_basis rules links i line (ByTable k) e = tt
+by_basis rules links i line (ByTable k) e =
+    told_table rules.groups links line (decided_by rules.exits i (outside_of rules.groups)) k e
 by_basis rules links i line ByTables e = tt
 by_basis rules links i line (Believed q) e =
     exit_valid rules (λ q. Unknown) q (needs rules (λ q. Unknown) links i line q e).is_exit
 
-pub valid_needs : (rules : RuleLines) (links : List Link) →
-    All HasValidNeed (bases_of rules links)
+pub all_tellable : (rules : RuleLines) (links : List Link) (tables : ℕ) → length links ≡ tables →
+    All (IsTellable tables) (bases_of rules links)
 unfolding bases_of
-valid_needs rules links =
+all_tellable rules links tables many =
     let f : ℕ × ExitLine → Basis = λ e. basis_of rules links e.0 e.1 in
-    All-map HasValidNeed f (enumerate_from 0 rules.exits)
+    All-map (IsTellable tables) f (enumerate_from 0 rules.exits)
     (λ k d l. (
     let e = get_or (enumerate_from 0 rules.exits) k d in
-    by_basis rules links e.0 e.1 (f e) refl))
+    subst (λ (n : ℕ). IsTellable n (f e)) many (by_basis rules links e.0 e.1 (f e) refl)))

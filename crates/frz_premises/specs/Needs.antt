@@ -1,5 +1,5 @@
 -- An exit at which a line needs belief.
-use Rattle.std.specs.Prelude.{◌≡◌, ℕ, true, false, List, ⊤}
+use Rattle.std.specs.Prelude.{◌≡◌, ◌<◌, ℕ, true, false, List, ⊤}
 use Rattle.std.specs.List.{list_any}
 use Rattle.frz_board.specs.Boards.{Board}
 use Rattle.frz_fide.specs.Valid.{IsValid}
@@ -25,10 +25,11 @@ pub record NeedsBelief (rules : RuleLines) (value : Board → Value) (links : Li
   pub asked : is_true_by rules.groups line.conds line.value ≡ false
   pub none : list_any (λ link. says_as_much line.value link q) links ≡ false
 
--- the exit that is told of a believed line is a valid position
-abbrev pub HasValidNeed : Basis → Type 0
-HasValidNeed AsksNothing = ⊤
-HasValidNeed ByMen = ⊤
-HasValidNeed (ByTable k) = ⊤
-HasValidNeed ByTables = ⊤
-HasValidNeed (Believed q) = IsValid q
+-- what is told of a line can be named, where there are so many tables: the table that proves it is
+-- one of them, and the exit that needs belief is a valid position
+abbrev pub IsTellable : (tables : ℕ) → Basis → Type 0
+IsTellable tables AsksNothing = ⊤
+IsTellable tables ByMen = ⊤
+IsTellable tables (ByTable k) = k < tables
+IsTellable tables ByTables = ⊤
+IsTellable tables (Believed q) = IsValid q

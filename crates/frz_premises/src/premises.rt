@@ -5,7 +5,7 @@ ghost use Rattle.frz_sets.specs.Sound.{IsSound};
 ghost use Rattle.frz_sets.specs.Views.{RuleLines};
 ghost use Rattle.frz_backs.specs.Links.{Link};
 ghost use Rattle.frz_premises.specs.Bases.{bases_of};
-ghost use Rattle.frz_premises.specs.Needs.{HasValidNeed};
+ghost use Rattle.frz_premises.specs.Needs.{IsTellable};
 ghost use Rattle.frz_backs.specs.Loaded.{link_loaded};
 ghost use Rattle.frz_premises.specs.Trials.{AreTried};
 ghost use Rattle.frz_premises.specs.WaysOut.{outside_of};
@@ -68,7 +68,8 @@ pub fn premises_of<L: Ledger>(
     requires fits { set.now ≡ rules.now.groups }
     ensures bases { IfOk result
         (λ bases. bases.items ≡ bases_of rules.now (map link_loaded backs.now)) }
-    ensures valid { IfOk result (λ bases. All HasValidNeed bases.items) }
+    ensures tellable { IfOk result
+        (λ bases. All (IsTellable (length backs.now)) bases.items) }
     ensures steps { steps.new ≤ steps.old + size_of rules.now.groups }
     ensures later { steps.old ≤ steps.new }
 {

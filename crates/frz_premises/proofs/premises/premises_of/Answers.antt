@@ -1,15 +1,15 @@
-use Rattle.std.proofs.Common.{◌≡◌, ◌∙◌, [], List, All, Vec, Global, map, sym, ap, subst, arith}
+use Rattle.std.proofs.Common.{◌≡◌, ◌∙◌, [], List, length, All, Vec, Global, map, sym, ap, subst, arith}
 use Rattle.std.proofs.lemmas.List.{length-map, with_items_is}
 use Rattle.frz_sets.specs.Views.{RuleLines}
 use Rattle.frz_backs.specs.Links.{Link}
 use Rattle.frz_premises.specs.declared.basis.Basis.{Basis}
 use Rattle.frz_premises.specs.declared.trial.Trial.{Trial}
 use Rattle.frz_premises.specs.Bases.{bases_of}
-use Rattle.frz_premises.specs.Needs.{HasValidNeed}
+use Rattle.frz_premises.specs.Needs.{IsTellable}
 use Rattle.frz_backs.specs.Loaded.{link_loaded}
 use Rattle.frz_premises.specs.Trials.{AreTried}
 use Rattle.frz_premises.specs.WaysOut.{outside_of}
-use Rattle.frz_premises.proofs.Needs.{valid_needs}
+use Rattle.frz_premises.proofs.Needs.{all_tellable}
 use Rattle.frz_premises.proofs.Trying.{if_ok}
 use Rattle.frz_premises.proofs.premises.premises_of.Goals as goal
 
@@ -35,8 +35,8 @@ returns-clause-bases g c =
     (λ (v : Vec Basis Global). v.items ≡ bases_of rules links) c.bases.result
     (λ v h. h rules links tried) c.bases.ensures
 
-pub returns-clause-valid : goal.returns-clause-valid
-returns-clause-valid g c =
+pub returns-clause-tellable : goal.returns-clause-tellable
+returns-clause-tellable g c =
     let rules = c.args.rules.now in
     let links = map link_loaded c.args.backs.now in
     let items = with_items_is c.in_ok-trials.trials c.walk.new.trials (omega arith) in
@@ -44,6 +44,8 @@ returns-clause-valid g c =
     (sym (c.deref.ensures.value ∙ items)) c.walk.ensures.tried in
     if_ok (λ (v : Vec Basis Global). (rs : RuleLines) (ls : List Link) →
     AreTried rs ls (outside_of rs.groups) c.deref.result.now → v.items ≡ bases_of rs ls)
-    (λ (v : Vec Basis Global). All HasValidNeed v.items) c.bases.result
-    (λ v h. subst (λ (bs : List Basis). All HasValidNeed bs) (sym (h rules links tried))
-    (valid_needs rules links)) c.bases.ensures
+    (λ (v : Vec Basis Global). All (IsTellable (length c.args.backs.now)) v.items) c.bases.result
+    (λ v h. subst (λ (bs : List Basis). All (IsTellable (length c.args.backs.now)) bs)
+    (sym (h rules links tried))
+    (all_tellable rules links (length c.args.backs.now)
+    (length-map c.args.backs.now link_loaded))) c.bases.ensures
