@@ -1,0 +1,101 @@
+-- What the answers of `premises RULES BACK ..` mean.
+use Rattle.std.specs.Prelude.{◌≡◌, ◌++◌, ℕ, false, List, [], ◌∷◌, length, map, slice_get, Some, Ok, ⊤}
+use Rattle.frz_board.specs.declared.man.Colour.{Colour}
+use Rattle.frz_board.specs.Boards.{Board}
+use Rattle.frz_sets.specs.Views.{ExitLine, RuleLines}
+use Rattle.frz_arena.specs.Exits.{IsExit}
+use Rattle.frz_exits.specs.Books.{value_by}
+use Rattle.frz_game.specs.Bounds.{IsTableOf}
+use Rattle.frz_game.specs.Games.{game_of}
+use Rattle.frz_game.specs.Values.{AreTrueExits, IsTrueValue}
+use Rattle.frz_rules.specs.Text.{rules_of}
+use Rattle.frz_store.specs.Files.{Files}
+use Rattle.frz_backs.specs.Links.{AreExact, AreTrueLines, Link, backs_of}
+use Rattle.frz_backs.specs.Values.{atlas_value}
+use Rattle.frz_atlas.specs.Behind.{AreJudged, TableBytes}
+use Rattle.frz_atlas.specs.Held.{all_held}
+use Rattle.frz_exit_lines.specs.Numbers.{exit_numbers_of}
+use Rattle.frz_exit_lines.specs.Saying.{exit_on_line}
+use Rattle.frz_premises.specs.declared.basis.Basis.TheVariants.{Believed}
+use Rattle.frz_premises.specs.Bases.{basis_of, is_believed}
+use Rattle.frz_premises.specs.Deciding.{decides}
+use Rattle.frz_premises.specs.Needs.{NeedsBelief}
+use Rattle.frz_answer.specs.declared.status.Status.{Status}
+use Rattle.frz_answer.specs.declared.status.Status.TheVariants as statuses
+use Rattle.frz_answer.specs.Answers.{Answer}
+use Rattle.frz_commands_premises.specs.PremiseLines.{TextLink, basis_lines, belief_among, links_in, premises_text, strength_over, text_link_of}
+use Rattle.frz_commands_premises.specs.Premises.{RefusesBack, RefusesRules}
+use Rattle.frz_commands_premises.specs.SidesMean.{StrengthMeans}
+
+-- what is told of the exit lines of a text, with these tables
+pub record LinesMean (text : List ℕ) (rules : RuleLines) (links : List Link) : Type 0 where
+  -- there is a number for each exit line, and the line with this number says what the exit does
+  pub numbered : length (exit_numbers_of text) ≡ length rules.exits
+  pub said : (k n : ℕ) → slice_get (exit_numbers_of text) k ≡ Some n →
+      exit_on_line text n ≡ slice_get rules.exits k
+  -- a line that is not believed is true at each exit that it decides, where the exit lines of the
+  -- tables are true
+  pub not_believed : AreTrueLines links → (i : ℕ) (line : ExitLine) →
+      slice_get rules.exits i ≡ Some line →
+      is_believed (basis_of rules links i line) ≡ false → (q : Board) →
+      IsExit (game_of rules (value_by rules)) q → decides rules.exits i q ≡ true →
+      IsTrueValue line.value q
+  -- the line decides the position that is told of a believed one, which is an exit, and neither the
+  -- men nor a table show there what it says
+  pub believed : (i : ℕ) (line : ExitLine) (q : Board) →
+      basis_of rules links i line ≡ Believed q →
+      NeedsBelief rules (value_by rules) links i line q
+
+-- so it is of each table's text, with the tables before it
+unfoldable pub AllLinesMean : List Link → List TextLink → Type 0
+AllLinesMean before [] = ⊤
+AllLinesMean before (t ∷ more) =
+    LinesMean t.text t.link.rules before × AllLinesMean (before ++ t.link ∷ []) more
+
+-- RULES holds a text that is accepted, the BACKs hold tables that are exact, each over those before
+-- it, and the text tells what their exit lines rest on
+pub record TellsPremises (rules : List ℕ) (behind : List (List ℕ)) (files : Files)
+    (text : List ℕ) : Type 0 where
+  pub rules_text : List ℕ
+  pub there : files rules ≡ Some rules_text
+  pub lines : RuleLines
+  pub accepted : rules_of rules_text ≡ Ok lines
+  pub tables : List TableBytes
+  pub behind_there : map files behind ≡ all_held tables
+  pub behind_judged : AreJudged tables
+  pub told : text ≡ premises_text rules_text lines tables
+  pub texts : List TextLink
+  pub texts_are : map text_link_of tables ≡ texts
+  pub links : List Link
+  pub links_are : links_in texts ≡ links
+  pub behind_exact : AreExact links
+  -- what is told of each exit line: of the BACKs, each with those before it, and of RULES
+  pub behind_mean : AllLinesMean [] texts
+  pub rules_mean : LinesMean rules_text lines links
+  -- where the text tells `believed 0`, the exits of RULES over the BACKs are true in chess, with
+  -- nothing assumed
+  pub none_believed : belief_among (basis_lines rules_text lines texts) ≡ 0 →
+      AreTrueExits lines (atlas_value lines (backs_of links))
+  -- what is told of each side is true of its codes in the one file of RULES over the BACKs
+  pub sides : (side : Colour) (codes : List ℕ) →
+      IsTableOf lines (atlas_value lines (backs_of links)) side codes →
+      StrengthMeans lines links side codes
+      (strength_over lines links (belief_among (basis_lines rules_text lines texts)) side)
+
+-- the file named RULES is refused, or one of the BACKs
+pub data Refuses (rules : List ℕ) (behind : List (List ℕ)) (files : Files) (a : Answer) : Type 0 where
+  of_rules : RefusesRules rules files a → Refuses rules behind files a
+  of_back : RefusesBack rules behind files a → Refuses rules behind files a
+
+-- what an answer says, by its status
+abbrev pub MeansStatus : List ℕ → List (List ℕ) → Files → Answer → Status → Type 0
+MeansStatus rules behind files a statuses.Success = TellsPremises rules behind files a.text
+MeansStatus rules behind files a status = Refuses rules behind files a
+
+-- what an answer of `premises` means: it changes no file and takes no input, and each status has its
+-- cause
+pub record MeansPremises (rules : List ℕ) (behind : List (List ℕ)) (files : Files)
+    (a : Answer) : Type 0 where
+  pub same : a.files ≡ files
+  pub untaken : a.taken ≡ 0
+  pub says : MeansStatus rules behind files a a.status
