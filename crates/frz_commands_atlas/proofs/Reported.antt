@@ -154,7 +154,8 @@ module _ (table : List ℕ) (behind : List (List ℕ)) (apart : has_twice (table
         (λ side. of_side side b.white b.black) result out after) l.keeps
         (subst (λ (b : List Back). WritesReport contents.rules (atlas_value contents.rules b)
         (λ side. of_side side given.table.white.items given.table.black.items) result out after)
-        l.all_keep h))
+        (sym (loaded_backs given.backs.items)
+        ∙ kept_backs (map link_loaded given.backs.items) l.tables l.all_keep) h))
       where
         same : (side : Colour) → of_side side (kept White) (kept Black) ≡ kept side
         same White = refl
