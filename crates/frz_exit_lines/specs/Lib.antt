@@ -1,0 +1,3 @@
+-- What the contracts of exit lines speak of.
+pub mod Numbers
+pub mod Saying
