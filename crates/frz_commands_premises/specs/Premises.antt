@@ -1,39 +1,20 @@
 -- What `premises RULES BACK ..` answers: what each exit line of the BACKs and of RULES rests on. No
 -- file changes.
-use Rattle.std.specs.Prelude.{◌≡◌, ℕ, ◌+◌, ◌*◌, List, [], ◌∷◌, map, sum_by, Option, Some, Result, Ok, Err}
+use Rattle.std.specs.Prelude.{◌≡◌, ℕ, ◌+◌, ◌*◌, List, map, sum_by, Option, Some, Result, Ok, Err}
 use Rattle.frz_sets.specs.Sets.{size_of}
 use Rattle.frz_sets.specs.Views.{RuleLines}
 use Rattle.frz_rules.specs.Text.{rules_of}
 use Rattle.frz_store.specs.Files.{Files}
-use Rattle.frz_answer.specs.declared.status.Status.TheVariants as statuses
+use Rattle.frz_answer.specs.declared.status.Status.TheVariants.{Success}
 use Rattle.frz_answer.specs.Answers.{Answer, says}
 use Rattle.frz_answer.specs.Jobs.{Costs}
-use Rattle.frz_prelude.specs.Refusals.{refusal_line, status_of}
 use Rattle.frz_prelude.specs.RulesFiles.{asked_of, reads_of, rules_held}
 use Rattle.frz_prelude.specs.declared.refused.Refused.{Refused}
-use Rattle.frz_atlas.specs.Behind.{IsRefusedAt, TableBytes}
+use Rattle.frz_atlas.specs.Behind.{TableBytes}
 use Rattle.frz_atlas.specs.Costs.{bytes_of, calls_of, steps_of}
-use Rattle.frz_atlas.specs.declared.fault.BackFault.{BackFault}
-use Rattle.frz_atlas_prelude.specs.BackLines.{back_line, back_status}
+use Rattle.frz_atlas_prelude.specs.RulesRefusals.{RefusesBack, RefusesRules}
 use Rattle.frz_atlas_prelude.specs.Tables.{AreTablesIn}
 use Rattle.frz_commands_premises.specs.PremiseLines.{premises_text}
-
--- the file named RULES holds no accepted rules, and the line says why
-pub record RefusesRules (rules : List ℕ) (files : Files) (a : Answer) : Type 0 where
-  pub why : Refused
-  pub refused : rules_held (files rules) ≡ Err why
-  pub told : a ≡ says (status_of why) (refusal_line why) files
-
--- RULES holds a text that is accepted. The BACK at this place is refused, and all before it are
--- exact; the line counts places from 1
-pub record RefusesBack (rules : List ℕ) (behind : List (List ℕ)) (files : Files)
-    (a : Answer) : Type 0 where
-  pub lines : RuleLines
-  pub accepted : rules_held (files rules) ≡ Ok lines
-  pub place : ℕ
-  pub fault : BackFault
-  pub refused : IsRefusedAt [] (map files behind) place fault
-  pub told : a ≡ says (back_status fault) (back_line place fault) files
 
 -- RULES holds a text that is accepted, and the BACKs hold tables that are exact, each over those
 -- before it. The text tells what the exit lines of all of them rest on
@@ -45,7 +26,7 @@ pub record FindsPremises (rules : List ℕ) (behind : List (List ℕ)) (files : 
   pub accepted : rules_of text ≡ Ok lines
   pub tables : List TableBytes
   pub behind_it : AreTablesIn (map files behind) tables
-  pub told : a ≡ says statuses.Success (premises_text text lines tables) files
+  pub told : a ≡ says Success (premises_text text lines tables) files
 
 -- RULES or one of the BACKs is refused, the first in this order, or the premises are told
 pub data IsToldAt (rules : List ℕ) (behind : List (List ℕ)) (files : Files)

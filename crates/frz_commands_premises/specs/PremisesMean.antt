@@ -23,8 +23,8 @@ use Rattle.frz_premises.specs.Needs.{NeedsBelief}
 use Rattle.frz_answer.specs.declared.status.Status.{Status}
 use Rattle.frz_answer.specs.declared.status.Status.TheVariants as statuses
 use Rattle.frz_answer.specs.Answers.{Answer}
+use Rattle.frz_atlas_prelude.specs.RulesRefusals.{Refuses}
 use Rattle.frz_commands_premises.specs.PremiseLines.{TextLink, basis_lines, belief_among, links_in, premises_text, strength_over, text_link_of}
-use Rattle.frz_commands_premises.specs.Premises.{RefusesBack, RefusesRules}
 use Rattle.frz_commands_premises.specs.SidesMean.{StrengthMeans}
 
 -- what is told of the exit lines of a text, with these tables
@@ -81,11 +81,6 @@ pub record TellsPremises (rules : List ℕ) (behind : List (List ℕ)) (files : 
       IsTableOf lines (atlas_value lines (backs_of links)) side codes →
       StrengthMeans lines links side codes
       (strength_over lines links (belief_among (basis_lines rules_text lines texts)) side)
-
--- the file named RULES is refused, or one of the BACKs
-pub data Refuses (rules : List ℕ) (behind : List (List ℕ)) (files : Files) (a : Answer) : Type 0 where
-  of_rules : RefusesRules rules files a → Refuses rules behind files a
-  of_back : RefusesBack rules behind files a → Refuses rules behind files a
 
 -- what an answer says, by its status
 abbrev pub MeansStatus : List ℕ → List (List ℕ) → Files → Answer → Status → Type 0

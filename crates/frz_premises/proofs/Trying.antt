@@ -422,6 +422,14 @@ all_based rules links bases many each =
     ∙ ap f (get_or-enumerate_from 0 rules.exits k (0, no_line) low)
     ∙ ap (λ (j : ℕ). basis_of rules links j (get_or rules.exits k no_line)) (zero-add k))))
 
+-- there is one for each line
+pub many_bases : (rules : RuleLines) (links : List Link) →
+    length (bases_of rules links) ≡ length rules.exits
+unfolding bases_of
+many_bases rules links =
+    let f : ℕ × ExitLine → Basis = λ e. basis_of rules links e.0 e.1 in
+    length-map (enumerate_from 0 rules.exits) f ∙ length-enumerate_from 0 rules.exits
+
 -- the value of a result, weakened
 pub if_ok : {T E : Type 0} (P Q : T → Type 0) (r : Result T E) → ((x : T) → P x → Q x) →
     IfOk r P → IfOk r Q
