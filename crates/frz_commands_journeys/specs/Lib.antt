@@ -1,0 +1,6 @@
+pub mod Words
+pub mod Endings
+pub mod JourneyOf
+pub mod Meaning
+pub mod Costs
+pub mod Journeying

@@ -1,0 +1,12 @@
+//! The commands of the program `atlas` that play by a table over several others: `line` and `play`.
+#![tactic(auto)]
+
+mod ending;
+mod journey;
+pub mod laws;
+mod line;
+mod names;
+mod play;
+
+pub use line::run_line;
+pub use play::run_play;
