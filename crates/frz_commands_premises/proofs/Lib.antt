@@ -1,0 +1,11 @@
+pub mod Lemmas
+mod Adding
+mod Writable
+mod Counted
+mod ExactTables
+mod SideWords
+mod Meaning
+mod Once
+mod Lawful
+mod Found
+mod Ended
