@@ -34,6 +34,7 @@ use Rattle.frz_atlas.specs.declared.fault.BackFault.{BackFault}
 use Rattle.frz_atlas.specs.declared.fault.BackFault.TheVariants.{Refused, Wrong}
 use Rattle.frz_atlas.proofs.Lemmas.{judged_exact, links_backs}
 use Rattle.frz_atlas_prelude.specs.BackLines.{back_status}
+use Rattle.frz_atlas_prelude.specs.TableRefusals.{RefusesBehind}
 use Rattle.frz_atlas_prelude.specs.Tables.{AreExactOver}
 use Rattle.frz_atlas_prelude.proofs.Lemmas.{never_refused, with_table}
 use Rattle.frz_commands_atlas.specs.AtlasHeadline.{AtlasHeadline}
