@@ -17,10 +17,10 @@ use Rattle.frz_answer.specs.declared.status.Status.TheVariants.{Success}
 use Rattle.frz_answer.specs.Answers.{Answer}
 use Rattle.frz_answer.specs.Jobs.{Job}
 use Rattle.frz_answer.specs.Words.{taking, unless}
+use Rattle.frz_atlas_prelude.specs.Names.{build_names_of, has_twice, table_names_of}
 use Rattle.frz_commands_atlas.specs.Building as builds
 use Rattle.frz_commands_atlas.specs.Building.{MakesAtlas, MeansBuild, building_at}
 use Rattle.frz_commands_atlas.specs.CheckMeans.{HoldsAtlas, MeansCheck, checking_at}
-use Rattle.frz_commands_atlas.specs.Names.{build_names_of, has_twice, table_names_of}
 use Rattle.atlas.specs.Calls.{build, check, query, Succeeds, TellsBoundsOver}
 use Rattle.atlas.specs.Commands.{job_of}
 use Rattle.atlas.proofs.Answering.{lawful_of}

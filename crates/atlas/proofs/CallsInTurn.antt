@@ -24,11 +24,11 @@ use Rattle.frz_prelude.specs.TableFiles.{TellsFaultOfKind}
 use Rattle.frz_commands_ask.specs.Meaning.{TellsBounds}
 use Rattle.frz_commands_ask.specs.Querying as queries
 use Rattle.frz_commands_ask.specs.Querying.{MeansQuery, TellsKept, querying_at}
+use Rattle.frz_atlas_prelude.specs.Names.{has_twice, table_names_of}
+use Rattle.frz_atlas_prelude.specs.declared.names.TheConstants.{MOST_BACKS}
 use Rattle.frz_commands_atlas.specs.AtlasHeadline.{AtlasHeadline}
 use Rattle.frz_commands_atlas.specs.CheckMeans as checks
 use Rattle.frz_commands_atlas.specs.CheckMeans.{MeansCheck, TellsExactOver, checking_at}
-use Rattle.frz_commands_atlas.specs.Names.{has_twice, table_names_of}
-use Rattle.frz_commands_atlas.specs.declared.names.TheConstants.{MOST_BACKS}
 use Rattle.atlas.specs.Calls.{check, query, Succeeds, TellsBoundsOver}
 use Rattle.atlas.specs.Commands.{job_of}
 use Rattle.atlas.proofs.Answering.{lawful_of}

@@ -17,6 +17,7 @@ use Rattle.frz_table.specs.Layout.{magic_of}
 use Rattle.frz_build.specs.Building.{Builds, writing_calls}
 use Rattle.frz_build.proofs.Lemmas.{builds_after, costs_added, costs_kept, quiet_same}
 use Rattle.frz_chain.specs.Books.{Back}
+use Rattle.frz_backs.specs.Links.{Link, backs_of}
 use Rattle.frz_backs.specs.Values.{atlas_value}
 use Rattle.frz_atlas.specs.Behind.{backs_in}
 use Rattle.frz_atlas.specs.Building.{BuildsAtlas, IsNotBuilt, RefusesToBuild, WithinBuilding, if_read, size_by}
@@ -27,6 +28,7 @@ use Rattle.frz_atlas.specs.Opening.{IsOneRefused, OpensAll, RefusesAll}
 use Rattle.frz_atlas.specs.declared.fault.AtlasFault.{AtlasFault}
 use Rattle.frz_atlas.specs.declared.fault.AtlasFault.TheVariants as atlas
 use Rattle.frz_atlas.proofs.Behind.{may_hold_some, some_helds}
+use Rattle.frz_atlas.proofs.ExactTables.{kept_backs}
 use Rattle.frz_atlas.proofs.StillHeld.{all_still_held}
 
 -- what was spent is within the costs where the text is accepted
@@ -53,9 +55,9 @@ within_building text rules helds old mid new steps_before steps_then steps_now a
     }
 
 module _ (text : List ℕ) (behind : List (List ℕ)) (name : List ℕ) (rules : RuleLines)
-    (accepted : rules_of text ≡ Ok rules) (loaded : List Back) (old mid new : StoreTold)
+    (accepted : rules_of text ≡ Ok rules) (links : List Link) (old mid new : StoreTold)
     (steps_before steps_then steps_now : ℕ) (quiet : StoreQuiet old mid) (fine : StoreFine old mid)
-    (opens : OpensAll behind loaded old mid steps_before steps_then)
+    (opens : OpensAll behind links old mid steps_before steps_then)
     (steps : steps_now ≤ steps_then + 4 * size_of rules.groups) (asked : new.asked ≡ mid.asked)
     (calls : new.calls ≤ mid.calls + writing_calls (size_of rules.groups)) where
   within_exact : WithinBuilding text (all_held opens.tables) old new steps_before steps_now
@@ -64,16 +66,16 @@ module _ (text : List ℕ) (behind : List (List ℕ)) (name : List ℕ) (rules :
       steps_now accepted opens.within steps (omega (arith, asked)) calls
 
   -- what was written since the tables were asked for is of the one file over them
-  over_tables : (used : List Back) (result : Result ℕ StoreFault) → used ≡ loaded
+  over_tables : (used : List Back) (result : Result ℕ StoreFault) → used ≡ backs_of links
       → Builds (magic_of Atlas) text rules (atlas_value rules used) name result mid new
       → Builds (magic_of Atlas) text rules (atlas_value rules (backs_in opens.tables)) name result
       old new
   over_tables used result same h =
       builds_after (magic_of Atlas) text rules (atlas_value rules used) _ name result old mid new
-      (ap (atlas_value rules) (same ∙ opens.keeps)) quiet fine h
+      (ap (atlas_value rules) (same ∙ kept_backs links opens.tables opens.keeps)) quiet fine h
 
   pub built : (Contains behind name → ⊥) → (size : ℕ) → size ≡ size_of rules.groups
-      → (used : List Back) → used ≡ loaded
+      → (used : List Back) → used ≡ backs_of links
       → Builds {T = ℕ} (magic_of Atlas) text rules (atlas_value rules used) name (Ok size) mid new
       → BuildsAtlas text behind name old new steps_before steps_now size
   built apart size sized used same b =
@@ -112,7 +114,7 @@ module _ (text : List ℕ) (behind : List (List ℕ)) (name : List ℕ) (rules :
   )
   not_written store.NoMemory h = (inr (rules, accepted), h.written)
 
-  pub not_built : (fault : StoreFault) (used : List Back) → used ≡ loaded
+  pub not_built : (fault : StoreFault) (used : List Back) → used ≡ backs_of links
       → Builds {T = ℕ} (magic_of Atlas) text rules (atlas_value rules used) name (Err fault) mid new
       → RefusesToBuild text behind name old new steps_before steps_now (fault_of fault)
   not_built fault used same h = record {

@@ -18,8 +18,9 @@ use Rattle.frz_table.proofs.Lemmas.{belongs, opened_calls, text_kept}
 use Rattle.frz_check.specs.Kept.{ChecksTable, IsVerdictOn, opened_size}
 use Rattle.frz_check.proofs.Lemmas.{file_opens}
 use Rattle.frz_chain.specs.Books.{Back}
+use Rattle.frz_backs.specs.Links.{Link, backs_of}
 use Rattle.frz_backs.specs.Values.{atlas_value}
-use Rattle.frz_atlas.specs.Behind.{TableBytes, backs_in}
+use Rattle.frz_atlas.specs.Behind.{TableBytes, backs_in, link_of}
 use Rattle.frz_atlas.specs.Causes.{table_fault}
 use Rattle.frz_atlas.specs.Checking.{ChecksAtlas, IsRefusedAtlas, RefusesAtlas, WithinChecking, own_size, sizes_in}
 use Rattle.frz_atlas.specs.Costs.{WithinAll, bytes_of, calls_of, steps_of}
@@ -29,6 +30,7 @@ use Rattle.frz_atlas.specs.declared.checking.Checked.{Checked}
 use Rattle.frz_atlas.specs.declared.fault.AtlasFault.{AtlasFault}
 use Rattle.frz_atlas.specs.declared.fault.AtlasFault.TheVariants as atlas
 use Rattle.frz_atlas.proofs.Behind.{may_hold_some, some_helds}
+use Rattle.frz_atlas.proofs.ExactTables.{kept_backs}
 
 -- a file that is refused is refused as a table
 file_refused : (held : Option (List ℕ)) (behind : List (Option (List ℕ))) (fault : TableFault)
@@ -124,11 +126,11 @@ outside_refused held behind (Rules fault) h = absurd h
 outside_refused held behind (Size kept due) h = absurd h
 
 -- the sizes of the loaded tables are those of the tables in their files
-sizes_behind : (sizes : List ℕ) (loaded : List Back) (tables : List TableBytes)
-    → sizes ≡ map (λ back. size_of back.groups) loaded → loaded ≡ backs_in tables
+sizes_behind : (sizes : List ℕ) (links : List Link) (tables : List TableBytes)
+    → sizes ≡ map (λ back. size_of back.groups) (backs_of links) → links ≡ map link_of tables
     → sizes ≡ sizes_in tables
-sizes_behind sizes loaded tables are keeps =
-    are ∙ ap (map (λ (b : Back). size_of b.groups)) keeps
+sizes_behind sizes links tables are keeps =
+    are ∙ ap (map (λ (b : Back). size_of b.groups)) (kept_backs links tables keeps)
     ∙ map-map (λ (b : Back). size_of b.groups) _ tables
 
 -- the table was opened
@@ -152,8 +154,8 @@ module _ (table : Table) (name : List ℕ) (behind : List (List ℕ)) (old mid :
   }
 
   -- and all of those behind it
-  module _ (loaded : List Back) (then new : StoreTold) (steps_then steps_now : ℕ)
-      (h : OpensAll behind loaded mid then steps_before steps_then)
+  module _ (links : List Link) (then new : StoreTold) (steps_then steps_now : ℕ)
+      (h : OpensAll behind links mid then steps_before steps_then)
       (more_asked : new.asked ≤ then.asked + 8 * table_size table)
       (more_calls : new.calls ≤ then.calls + 2 * pieces_of (table_size table))
       (steps : steps_now ≤ steps_then + table_size table) where
@@ -181,8 +183,8 @@ module _ (table : Table) (name : List ℕ) (behind : List (List ℕ)) (old mid :
 
     pub checked : then.files ≡ mid.files → table.kind ≡ Atlas → table.name ≡ name → (c : Checked)
         → c.size ≡ table_size table
-        → c.behind.items ≡ map (λ back. size_of back.groups) loaded
-        → ChecksTable then.files table (atlas_value table.rules loaded) c.verdict
+        → c.behind.items ≡ map (λ back. size_of back.groups) (backs_of links)
+        → ChecksTable then.files table (atlas_value table.rules (backs_of links)) c.verdict
         → ChecksAtlas name behind old new steps_before steps_now c
     checked then_same kind named c size sizes told =
         let contents : Contents = contents_of table in
@@ -201,8 +203,8 @@ module _ (table : Table) (name : List ℕ) (behind : List (List ℕ)) (old mid :
               subst (λ (k : FileKind). IsVerdictOn k
               (atlas_value table.rules (backs_in h.tables)) contents told.bytes c.verdict) kind
               (subst (λ (b : List Back). IsVerdictOn table.kind (atlas_value table.rules b) contents
-              told.bytes c.verdict) h.keeps told.told);
+              told.bytes c.verdict) (kept_backs links h.tables h.keeps) told.told);
           size = size;
-          sizes = sizes_behind c.behind.items loaded h.tables sizes h.keeps;
+          sizes = sizes_behind c.behind.items links h.tables sizes h.keeps;
           within = within_opened told.bytes there.1;
         }

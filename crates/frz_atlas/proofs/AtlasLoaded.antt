@@ -16,8 +16,9 @@ use Rattle.frz_table.specs.Tables.{Table, table_size}
 use Rattle.frz_table.proofs.Lemmas.{belongs}
 use Rattle.frz_check.specs.Kept.{kept_codes}
 use Rattle.frz_check.proofs.Lemmas.{file_opens}
-use Rattle.frz_chain.specs.Books.{Back, back_with}
-use Rattle.frz_chain.specs.FileOn.{loaded_back}
+use Rattle.frz_chain.specs.Books.{back_with}
+use Rattle.frz_backs.specs.Links.{Link}
+use Rattle.frz_backs.specs.Loaded.{link_loaded}
 use Rattle.frz_atlas.specs.Causes.{table_fault}
 use Rattle.frz_atlas.specs.Checking.{IsRefusedAtlas}
 use Rattle.frz_atlas.specs.Held.{MayHoldAll, all_held}
@@ -101,11 +102,11 @@ module _ (table : Table) (name : List ℕ) (behind : List (List ℕ)) (old mid :
   }
 
   -- all of those behind it were loaded, and its own codes were not
-  pub not_loaded : (backs : List Back) (then new : StoreTold) (fault : TableFault)
-      → LoadsAll behind backs mid then → new.asked ≤ then.asked + 8 * table_size table
+  pub not_loaded : (links : List Link) (then new : StoreTold) (fault : TableFault)
+      → LoadsAll behind links mid then → new.asked ≤ then.asked + 8 * table_size table
       → new.calls ≤ then.calls + 2 * pieces_of (table_size table) → IsOutside fault
       → RefusesToRead name behind old new (table_fault fault)
-  not_loaded backs then new fault h more_asked more_calls outside =
+  not_loaded links then new fault h more_asked more_calls outside =
       let helds = all_held h.tables in
       record {
         held = Some opens.bytes;
@@ -126,7 +127,7 @@ pub loaded : (given : LoadedAtlas) (name : List ℕ) (behind : List (List ℕ))
     → mid.files ≡ old.files → then.files ≡ mid.files
     → mid.asked ≤ old.asked + (16 + length given.table.table.text)
     → mid.calls ≤ old.calls + 5 → given.table.table.kind ≡ Atlas → given.table.table.name ≡ name
-    → LoadsAll behind (map loaded_back given.backs.items) mid then
+    → LoadsAll behind (map link_loaded given.backs.items) mid then
     → MayKeep then.files given.table.table given.table.white.items given.table.black.items
     → new.asked ≤ then.asked + 8 * table_size given.table.table
     → new.calls ≤ then.calls + 2 * pieces_of (table_size given.table.table)
@@ -143,6 +144,7 @@ loaded given name behind old mid then new opens same then_same asked calls kind 
       bytes = kept.bytes;
       may = there.0;
       opens = there.1;
+      leaning = kind;
       keeps =
           ap (λ (l : List ℕ). back_with table.rules.groups l given.table.black.items)
           (sym kept.white_is)

@@ -11,7 +11,8 @@ use Rattle.frz_table.specs.Possible.{MayHold}
 use Rattle.frz_check.specs.declared.verdict.Verdict.TheVariants.{Exact}
 use Rattle.frz_chain.specs.Books.{Back}
 use Rattle.frz_chain.specs.FileOn.{back_of}
-use Rattle.frz_atlas.specs.Behind.{AreJudgedOver, IsJudgedOver, IsRefusedAt, IsRefusedOver, TableBytes, backs_in}
+use Rattle.frz_backs.specs.Links.{Link, backs_of}
+use Rattle.frz_atlas.specs.Behind.{AreJudgedOver, IsJudgedOver, IsRefusedAt, IsRefusedOver, TableBytes, backs_in, link_of}
 use Rattle.frz_atlas.specs.Causes.{back_fault}
 use Rattle.frz_atlas.specs.Costs.{WithinAll, WithinOne, bytes_of, calls_of, steps_of}
 use Rattle.frz_atlas.specs.Held.{MayHoldAll, all_held}
@@ -19,6 +20,7 @@ use Rattle.frz_atlas.specs.Opening.{IsOneRefused, MayBeRefused, OpensAll, OpensO
 use Rattle.frz_atlas.specs.declared.fault.AtlasFault.TheVariants as atlas
 use Rattle.frz_atlas.specs.declared.fault.BackFault.{BackFault}
 use Rattle.frz_atlas.specs.declared.fault.BackFault.TheVariants as one
+use Rattle.frz_atlas.proofs.ExactTables.{kept_backs}
 use Rattle.frz_atlas.proofs.OwnKinds.{held_by, may_be_held}
 
 -- names of two lists may hold what each list may
@@ -123,20 +125,17 @@ none_open told steps = record {
   within = record { steps = omega arith; asked = omega arith; calls = omega arith };
 }
 
-module _ (names : List (List ℕ)) (backs : List Back) (old mid new : StoreTold)
+module _ (names : List (List ℕ)) (links : List Link) (old mid new : StoreTold)
     (steps_before steps_between steps_now : ℕ) (name : List ℕ)
-    (h : OpensAll names backs old mid steps_before steps_between)
+    (h : OpensAll names links old mid steps_before steps_between)
     (same : mid.files ≡ old.files) where
   -- one more is open
-  pub one_more : (back : Back) → OpensOver backs name back mid new steps_between steps_now
-      → OpensAll (names ++ (name ∷ [])) (backs ++ (back ∷ [])) old new steps_before steps_now
-  one_more back k =
+  pub one_more : (link : Link) → OpensOver (backs_of links) name link mid new steps_between steps_now
+      → OpensAll (names ++ (name ∷ [])) (links ++ (link ∷ [])) old new steps_before steps_now
+  one_more link k =
       let tables : List TableBytes = h.tables ++ (k.table ∷ []) in
       let helds : all_held h.tables ++ (Some k.table.bytes ∷ []) ≡ all_held tables =
       sym (map-append (λ (t : TableBytes). Some t.bytes) h.tables (k.table ∷ [])) in
-      let kept : backs_in h.tables ++ (back_of k.table.contents k.table.bytes ∷ [])
-      ≡ backs_in tables =
-      sym (map-append (λ (t : TableBytes). back_of t.contents t.bytes) h.tables (k.table ∷ [])) in
       record {
         tables = tables;
         may = subst (λ (l : List (Option (List ℕ))). MayHoldAll old.files (names ++ (name ∷ [])) l)
@@ -145,9 +144,11 @@ module _ (names : List (List ℕ)) (backs : List Back) (old mid new : StoreTold)
             (may_hold_one old.files name (Some k.table.bytes)
             (subst (λ (o : Option Files). MayHold o name (Some k.table.bytes)) same k.may)));
         exact = judged_more [] h.tables k.table h.exact k.are_bytes
-            (subst (λ (b : List Back). IsJudgedOver b k.table Exact) h.keeps k.judged);
-        keeps = ap (λ (l : List Back). l ++ (back ∷ [])) h.keeps
-            ∙ ap (λ (b : Back). backs_in h.tables ++ (b ∷ [])) k.keeps ∙ kept;
+            (subst (λ (b : List Back). IsJudgedOver b k.table Exact)
+            (kept_backs links h.tables h.keeps) k.judged);
+        keeps = ap (λ (l : List Link). l ++ (link ∷ [])) h.keeps
+            ∙ ap (λ (x : Link). map link_of h.tables ++ (x ∷ [])) k.keeps
+            ∙ sym (map-append link_of h.tables (k.table ∷ []));
         within = subst (λ (l : List (Option (List ℕ))). WithinAll l old new steps_before steps_now)
             helds (within_more (all_held h.tables) [] (Some k.table.bytes) old mid new steps_before
             steps_between steps_now h.within k.within);
@@ -155,10 +156,11 @@ module _ (names : List (List ℕ)) (backs : List Back) (old mid new : StoreTold)
 
   -- the next is refused
   refused_next : (fault : BackFault) (held : Option (List ℕ)) (rest : List (Option (List ℕ)))
-      → MayBeRefused backs held fault
+      → MayBeRefused (backs_of links) held fault
       → IsOneRefused (all_held h.tables ++ (held ∷ rest)) (back_fault (length h.tables) fault)
   refused_next fault held rest r =
-      refused_for fault (subst (λ (b : List Back). MayBeRefused b held fault) h.keeps r)
+      refused_for fault (subst (λ (b : List Back). MayBeRefused b held fault)
+      (kept_backs links h.tables h.keeps) r)
     where
       refused_for : (f : BackFault) → MayBeRefused (backs_in h.tables) held f
           → IsOneRefused (all_held h.tables ++ (held ∷ rest)) (back_fault (length h.tables) f)
@@ -180,14 +182,13 @@ module _ (names : List (List ℕ)) (backs : List Back) (old mid new : StoreTold)
       refused_for (one.Refused NoMemory) k = tt
 
   pub one_refused : (more : List (List ℕ)) (fault : BackFault)
-      → RefusesOver backs name mid new steps_between steps_now fault
+      → RefusesOver (backs_of links) name mid new steps_between steps_now fault
       → RefusesAll (names ++ (name ∷ more)) old new steps_before steps_now
-      (back_fault (length backs) fault)
+      (back_fault (length links) fault)
   one_refused more fault k =
       let rest : List (Option (List ℕ)) = some_helds old.files more in
-      let many : length h.tables ≡ length backs =
-      sym (ap (length {A = Back}) h.keeps
-      ∙ length-map h.tables (λ (t : TableBytes). back_of t.contents t.bytes)) in
+      let many : length h.tables ≡ length links =
+      sym (ap (length {A = Link}) h.keeps ∙ length-map h.tables link_of) in
       record {
         helds = all_held h.tables ++ (k.held ∷ rest);
         may =
@@ -203,10 +204,10 @@ module _ (names : List (List ℕ)) (backs : List Back) (old mid new : StoreTold)
       }
 
 -- memory was wanted once these were open
-pub memory_wanted : (names more : List (List ℕ)) (backs : List Back) (old new : StoreTold)
-    (steps_before steps_now : ℕ) → OpensAll names backs old new steps_before steps_now
+pub memory_wanted : (names more : List (List ℕ)) (links : List Link) (old new : StoreTold)
+    (steps_before steps_now : ℕ) → OpensAll names links old new steps_before steps_now
     → RefusesAll (names ++ more) old new steps_before steps_now atlas.NoMemory
-memory_wanted names more backs old new steps_before steps_now h = record {
+memory_wanted names more links old new steps_before steps_now h = record {
   helds = all_held h.tables ++ some_helds old.files more;
   may = may_hold_both old.files names more (all_held h.tables) (some_helds old.files more) h.may
       (may_hold_some old.files more);

@@ -1,9 +1,9 @@
 -- Tables that were judged exact from the left are exact, each over those before it.
-use Rattle.std.proofs.Common.{◌≡◌, refl, ap, List, [], ◌∷◌, ◌++◌, map}
+use Rattle.std.proofs.Common.{◌≡◌, refl, ap, ◌∙◌, List, [], ◌∷◌, ◌++◌, map}
 use Rattle.frz_board.specs.declared.man.Colour.TheVariants.{White, Black}
 use Rattle.frz_chain.specs.Books.{Back}
 use Rattle.frz_chain.specs.FileOn.{back_of}
-use Rattle.frz_backs.specs.Links.{AreExact, AreExactOver, backs_of}
+use Rattle.frz_backs.specs.Links.{AreExact, AreExactOver, Link, backs_of}
 use Rattle.frz_atlas.specs.Behind.{AreJudged, AreJudgedOver, TableBytes, backs_in, link_of}
 
 exact_over : (before : List Back) (tables : List TableBytes) → AreJudgedOver before tables
@@ -22,3 +22,8 @@ pub links_backs : (tables : List TableBytes) → backs_of (map link_of tables) �
 links_backs [] = refl
 links_backs (t ∷ tables) =
     ap (λ (l : List Back). back_of t.contents t.bytes ∷ l) (links_backs tables)
+
+-- the backs of tables that were opened or loaded are those in their files
+pub kept_backs : (links : List Link) (tables : List TableBytes) → links ≡ map link_of tables
+    → backs_of links ≡ backs_in tables
+kept_backs links tables keeps = ap backs_of keeps ∙ links_backs tables

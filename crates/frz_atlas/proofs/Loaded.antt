@@ -1,6 +1,5 @@
 -- One table that was opened as its own kind and loaded, and one that was not.
 use Rattle.std.proofs.Common.{◌≡◌, sym, ap, ◌∙◌, ℕ, ◌+◌, ◌*◌, ◌≤◌, List, length, Bool, Some, Ok, IfSome, arith}
-use Rattle.frz_board.specs.declared.man.Colour.TheVariants.{White}
 use Rattle.frz_rules.specs.Text.{rules_of}
 use Rattle.frz_sets.specs.Sets.{size_of}
 use Rattle.frz_store.specs.Bytes.{HoldsBytes}
@@ -12,14 +11,13 @@ use Rattle.frz_table.specs.Opening.{Contents, contents_of, table_format}
 use Rattle.frz_table.specs.Possible.{MayKeep}
 use Rattle.frz_table.specs.Tables.{Table, table_size}
 use Rattle.frz_table.proofs.Lemmas.{belongs, held_bytes, outside_refuses}
-use Rattle.frz_check.specs.Kept.{kept_codes}
 use Rattle.frz_check.proofs.Lemmas.{file_opens}
-use Rattle.frz_chain.specs.Books.{back_with}
 use Rattle.frz_chain.specs.declared.back.BackTable.{BackTable}
+use Rattle.frz_backs.specs.Loaded.{leans_as}
 use Rattle.frz_atlas.specs.Behind.{kind_by, kind_of}
 use Rattle.frz_atlas.specs.Loading.{LoadsOne, RefusesOne, WithinLoadingOne, opened_own}
-use Rattle.frz_atlas.specs.Opening.{IsOwnKind, MayOpenOwn, MayRefuseOwn, leans_as}
-use Rattle.frz_atlas.proofs.Opened.{within_one}
+use Rattle.frz_atlas.specs.Opening.{IsOwnKind, MayOpenOwn, MayRefuseOwn}
+use Rattle.frz_atlas.proofs.Opened.{link_kept, within_one}
 use Rattle.frz_atlas.proofs.OwnKinds.{leans_by, opens_own}
 
 pub not_opened : (name : List ℕ) (old new : StoreTold) (fault : TableFault)
@@ -82,12 +80,9 @@ loaded_one given name old mid new are kept same kind named may asked calls more_
       may = there.0;
       are_bytes = held_bytes mid.files table.name (Some kept.bytes) are kept.may;
       opens = opens;
-      leaning = leans_by b kept.bytes begins;
       keeps =
-          ap (λ (l : List ℕ). back_with table.rules.groups l given.black.items)
-          (sym kept.white_is)
-          ∙ ap (λ (l : List ℕ). back_with table.rules.groups (kept_codes contents kept.bytes White)
-          l) (sym kept.black_is);
+          link_kept table given.white.items given.black.items kept.bytes
+          (leans_by b kept.bytes begins) (sym kept.white_is) (sym kept.black_is);
       within = within_loading kept.bytes contents old mid new opens asked calls more_asked
           more_calls;
     }

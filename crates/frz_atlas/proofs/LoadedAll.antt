@@ -9,9 +9,11 @@ use Rattle.frz_table.specs.declared.fault.TableFault.TheVariants.{Missing, Magic
 use Rattle.frz_table.specs.Opening.{Contents, Refuses, contents_of}
 use Rattle.frz_table.specs.Possible.{MayHold}
 use Rattle.frz_chain.specs.Books.{Back}
-use Rattle.frz_chain.specs.FileOn.{back_of, loaded_back}
+use Rattle.frz_chain.specs.FileOn.{back_of}
 use Rattle.frz_chain.specs.declared.back.BackTable.{BackTable}
-use Rattle.frz_atlas.specs.Behind.{AreJudgedOver, TableBytes, backs_in}
+use Rattle.frz_backs.specs.Links.{Link}
+use Rattle.frz_backs.specs.Loaded.{link_loaded}
+use Rattle.frz_atlas.specs.Behind.{AreJudgedOver, TableBytes, link_of}
 use Rattle.frz_atlas.specs.Causes.{back_fault}
 use Rattle.frz_atlas.specs.Costs.{bytes_of, calls_of}
 use Rattle.frz_atlas.specs.Held.{MayHoldAll, all_held}
@@ -139,18 +141,16 @@ none_loaded told = record {
   within = record { asked = omega arith; calls = omega arith };
 }
 
-module _ (names : List (List ℕ)) (backs : List Back) (old mid new : StoreTold) (name : List ℕ)
-    (h : LoadsAll names backs old mid) (same : mid.files ≡ old.files) where
+module _ (names : List (List ℕ)) (links : List Link) (old mid new : StoreTold) (name : List ℕ)
+    (h : LoadsAll names links old mid) (same : mid.files ≡ old.files) where
   -- one more is loaded
   one_more : (given : BackTable) → LoadsOne name mid new given
-      → LoadsAll (names ++ (name ∷ [])) (backs ++ (loaded_back given ∷ [])) old new
+      → LoadsAll (names ++ (name ∷ [])) (links ++ (link_loaded given ∷ [])) old new
   one_more given k =
       let table : TableBytes = record { bytes = k.bytes; contents = contents_of given.table } in
       let tables : List TableBytes = h.tables ++ (table ∷ []) in
       let helds : all_held h.tables ++ (Some k.bytes ∷ []) ≡ all_held tables =
       sym (map-append (λ (t : TableBytes). Some t.bytes) h.tables (table ∷ [])) in
-      let kept : backs_in h.tables ++ (back_of table.contents k.bytes ∷ []) ≡ backs_in tables =
-      sym (map-append (λ (t : TableBytes). back_of t.contents t.bytes) h.tables (table ∷ [])) in
       record {
         tables = tables;
         may = subst (λ (l : List (Option (List ℕ))). MayHoldAll old.files (names ++ (name ∷ [])) l)
@@ -160,8 +160,9 @@ module _ (names : List (List ℕ)) (backs : List Back) (old mid new : StoreTold)
             (subst (λ (o : Option Files). MayHold o name (Some k.bytes)) same k.may)));
         opens = subst (λ (l : List (Option (List ℕ))). opened_all l ≡ Ok tables) helds
             (opens_last h.tables table h.opens k.opens);
-        keeps = ap (λ (l : List Back). l ++ (loaded_back given ∷ [])) h.keeps
-            ∙ ap (λ (b : Back). backs_in h.tables ++ (b ∷ [])) k.keeps ∙ kept;
+        keeps = ap (λ (l : List Link). l ++ (link_loaded given ∷ [])) h.keeps
+            ∙ ap (λ (x : Link). map link_of h.tables ++ (x ∷ [])) k.keeps
+            ∙ sym (map-append link_of h.tables (table ∷ []));
         within = subst (λ (l : List (Option (List ℕ))). WithinLoading l old new) helds
             (within_more (all_held h.tables) [] (Some k.bytes) old mid new h.within k.within);
       }
@@ -182,12 +183,11 @@ module _ (names : List (List ℕ)) (backs : List Back) (old mid new : StoreTold)
   refused_next held rest NoMemory e = tt
 
   one_refused : (more : List (List ℕ)) (fault : TableFault) → RefusesOne name mid new fault
-      → RefusesToLoad (names ++ (name ∷ more)) old new (back_fault (length backs) (Refused fault))
+      → RefusesToLoad (names ++ (name ∷ more)) old new (back_fault (length links) (Refused fault))
   one_refused more fault k =
       let rest : List (Option (List ℕ)) = some_helds old.files more in
-      let many : length h.tables ≡ length backs =
-      sym (ap (length {A = Back}) h.keeps
-      ∙ length-map h.tables (λ (t : TableBytes). back_of t.contents t.bytes)) in
+      let many : length h.tables ≡ length links =
+      sym (ap (length {A = Link}) h.keeps ∙ length-map h.tables link_of) in
       record {
         helds = all_held h.tables ++ (k.held ∷ rest);
         may =
@@ -202,9 +202,9 @@ module _ (names : List (List ℕ)) (backs : List Back) (old mid new : StoreTold)
       }
 
 -- memory was wanted once these were loaded
-memory_wanted : (names more : List (List ℕ)) (backs : List Back) (old new : StoreTold)
-    → LoadsAll names backs old new → RefusesToLoad (names ++ more) old new atlas.NoMemory
-memory_wanted names more backs old new h = record {
+memory_wanted : (names more : List (List ℕ)) (links : List Link) (old new : StoreTold)
+    → LoadsAll names links old new → RefusesToLoad (names ++ more) old new atlas.NoMemory
+memory_wanted names more links old new h = record {
   helds = all_held h.tables ++ some_helds old.files more;
   may = may_hold_both old.files names more (all_held h.tables) (some_helds old.files more) h.may
       (may_hold_some old.files more);
@@ -216,24 +216,24 @@ memory_wanted names more backs old new h = record {
 module _ {A : Type 0} (f : A → List ℕ) (names : List A) (i : ℕ) (x : A) (name : List ℕ)
     (items : List BackTable) (old mid new : StoreTold) (inside : i < length names)
     (is : x ≡ get_or names i x) (named : name ≡ f x)
-    (h : LoadsAll (map f (take i names)) (map loaded_back items) old mid)
+    (h : LoadsAll (map f (take i names)) (map link_loaded items) old mid)
     (same : mid.files ≡ old.files) where
   next_loaded : (given : BackTable) → LoadsOne name mid new given
       → LoadsAll (map f (take i names) ++ (f x ∷ []))
-      (map loaded_back items ++ (loaded_back given ∷ [])) old new
+      (map link_loaded items ++ (link_loaded given ∷ [])) old new
   next_loaded given k =
-      one_more (map f (take i names)) (map loaded_back items) old mid new (f x) h same given
+      one_more (map f (take i names)) (map link_loaded items) old mid new (f x) h same given
       (subst (λ (n : List ℕ). LoadsOne n mid new given) named k)
 
   pub loaded_next : (given : BackTable) (pushed : List BackTable) → pushed ≡ items ++ (given ∷ [])
       → LoadsOne name mid new given
-      → LoadsAll (map f (take (i + 1) names)) (map loaded_back pushed) old new
+      → LoadsAll (map f (take (i + 1) names)) (map link_loaded pushed) old new
   loaded_next given pushed push k =
-      subst (λ (l : List (List ℕ)). LoadsAll l (map loaded_back pushed) old new)
+      subst (λ (l : List (List ℕ)). LoadsAll l (map link_loaded pushed) old new)
       (names_next f names i x inside is)
-      (subst (λ (l : List Back). LoadsAll (map f (take i names) ++ (f x ∷ [])) l old new)
-      (sym (ap (λ (l : List BackTable). map loaded_back l) push
-      ∙ map-append loaded_back items (given ∷ [])))
+      (subst (λ (l : List Link). LoadsAll (map f (take i names) ++ (f x ∷ [])) l old new)
+      (sym (ap (λ (l : List BackTable). map link_loaded l) push
+      ∙ map-append link_loaded items (given ∷ [])))
       (next_loaded given k))
 
   pub refused_here : (fault : TableFault) → length items ≡ i → RefusesOne name mid new fault
@@ -242,8 +242,8 @@ module _ {A : Type 0} (f : A → List ℕ) (names : List A) (i : ℕ) (x : A) (n
       subst (λ (l : List (List ℕ)). RefusesToLoad l old new (back_fault i (Refused fault)))
       (names_here f names i x inside is)
       (subst (λ (n : ℕ). RefusesToLoad (map f (take i names) ++ (f x ∷ map f (drop (suc i) names)))
-      old new (back_fault n (Refused fault))) (length-map items loaded_back ∙ many)
-      (one_refused (map f (take i names)) (map loaded_back items) old mid new (f x) h same
+      old new (back_fault n (Refused fault))) (length-map items link_loaded ∙ many)
+      (one_refused (map f (take i names)) (map link_loaded items) old mid new (f x) h same
       (map f (drop (suc i) names)) fault
       (subst (λ (n : List ℕ). RefusesOne n mid new fault) named k)))
 
@@ -254,4 +254,4 @@ module _ {A : Type 0} (f : A → List ℕ) (names : List A) (i : ℕ) (x : A) (n
       (append_assoc (map f (take i names)) (f x ∷ []) (map f (drop (suc i) names))
       ∙ names_here f names i x inside is)
       (memory_wanted (map f (take i names) ++ (f x ∷ [])) (map f (drop (suc i) names))
-      (map loaded_back items ++ (loaded_back given ∷ [])) old new (next_loaded given k))
+      (map link_loaded items ++ (link_loaded given ∷ [])) old new (next_loaded given k))

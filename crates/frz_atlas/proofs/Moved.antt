@@ -11,8 +11,8 @@ use Rattle.frz_chain.specs.Books.{Back}
 use Rattle.frz_chain.specs.FileOn.{loaded_back}
 use Rattle.frz_chain.specs.declared.back.BackTable.{BackTable}
 use Rattle.frz_backs.specs.Links.{value_over}
+use Rattle.frz_backs.specs.Loaded.{leans_as}
 use Rattle.frz_backs.specs.Values.{atlas_value}
-use Rattle.frz_atlas.specs.Opening.{leans_as}
 
 -- by a book of tables, where the kind is one that leans on them
 pub moved_leaning : (kind : FileKind) (r s : RuleLines) (a b : List BackTable)

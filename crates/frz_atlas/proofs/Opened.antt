@@ -21,14 +21,15 @@ use Rattle.frz_check.specs.declared.verdict.Verdict.{Verdict}
 use Rattle.frz_check.specs.Kept.{IsVerdictOn, kept_codes, opened_size}
 use Rattle.frz_check.specs.Verdicts.{IsVerdict}
 use Rattle.frz_check.proofs.Lemmas.{file_opens, same_verdict, verdict_on}
-use Rattle.frz_chain.specs.Books.{Back, back_with}
-use Rattle.frz_chain.specs.FileOn.{back_of, loaded_back}
+use Rattle.frz_chain.specs.Books.{Back}
+use Rattle.frz_chain.specs.FileOn.{back_of}
 use Rattle.frz_chain.specs.declared.back.BackTable.{BackTable}
-use Rattle.frz_backs.specs.Links.{value_over}
+use Rattle.frz_backs.specs.Links.{Link, value_over}
+use Rattle.frz_backs.specs.Loaded.{leans_as, link_loaded}
 use Rattle.frz_backs.proofs.Lemmas.{over_small}
-use Rattle.frz_atlas.specs.Behind.{IsJudgedOver, TableBytes, kind_by, kind_held, kind_of, leans}
+use Rattle.frz_atlas.specs.Behind.{IsJudgedOver, TableBytes, kind_by, kind_held, kind_of, leans, link_of}
 use Rattle.frz_atlas.specs.Costs.{WithinOne, size_held}
-use Rattle.frz_atlas.specs.Opening.{GivesBack, IsOwnKind, MayBeRefused, MayOpenOwn, MayRefuseOwn, OpensOver, RefusesOver, leans_as}
+use Rattle.frz_atlas.specs.Opening.{GivesBack, IsOwnKind, MayBeRefused, MayOpenOwn, MayRefuseOwn, OpensOver, RefusesOver, link_with}
 use Rattle.frz_atlas.specs.declared.fault.BackFault.{BackFault}
 use Rattle.frz_atlas.specs.declared.fault.BackFault.TheVariants as one
 use Rattle.frz_atlas.proofs.OwnKinds.{leans_by}
@@ -113,13 +114,13 @@ not_loaded before table name old mid new steps_before steps_now fault opens aske
     }
 
 -- a file that the name may hold, with the verdict on the lists that were loaded
-pub record JudgedOver (before : List Back) (name : List ℕ) (back : Back) (v : Verdict)
+pub record JudgedOver (before : List Back) (name : List ℕ) (link : Link) (v : Verdict)
     (old new : StoreTold) (steps_before steps_now : ℕ) : Type 0 where
   pub table : TableBytes
   pub may : MayHold old.files name (Some table.bytes)
   pub are_bytes : AreBytes table.bytes
   pub judged : IsJudgedOver before table v
-  pub keeps : back ≡ back_of table.contents table.bytes
+  pub keeps : link ≡ link_of table
   pub within : WithinOne (Some table.bytes) old new steps_before steps_now
 
 -- the verdict on the lists is one on the file
@@ -154,6 +155,20 @@ judged_as b before table white black bytes v is read opens white_is black_is h =
     on_codes = same_verdict table.rules (value_over b table.rules before) (λ side. of_side side white black)
         (kept_codes (contents_of table) bytes) v by_side h
 
+-- the table in a file that keeps these codes is the one with them
+abbrev leaning_in : Contents → List ℕ → Bool → Link
+leaning_in contents bytes b =
+    record { rules = contents.rules; leans = b; back = back_of contents bytes }
+
+pub link_kept : (table : Table) (white black bytes : List ℕ) → leans bytes ≡ leans_as table.kind
+    → white ≡ kept_codes (contents_of table) bytes White
+    → black ≡ kept_codes (contents_of table) bytes Black
+    → link_with table white black ≡ link_of (record { bytes = bytes; contents = contents_of table })
+link_kept table white black bytes leaning white_is black_is =
+    ap (λ (l : List ℕ). link_with table l black) white_is
+    ∙ ap (λ (l : List ℕ). link_with table (kept_codes (contents_of table) bytes White) l) black_is
+    ∙ ap (leaning_in (contents_of table) bytes) (sym leaning)
+
 pub judged_over : (before : List Back) (table : Table) (name white black : List ℕ) (v : Verdict)
     (old mid new : StoreTold) (steps_before steps_now : ℕ)
     → IfSome mid.files HoldsBytes
@@ -165,7 +180,7 @@ pub judged_over : (before : List Back) (table : Table) (name white black : List 
     → steps_now ≤ steps_before + table_size table
     → IsVerdict table.rules (value_over (leans_as table.kind) table.rules before)
     (λ side. of_side side white black) v
-    → JudgedOver before name (back_with table.rules.groups white black) v old new
+    → JudgedOver before name (link_with table white black) v old new
     steps_before steps_now
 judged_over before table name white black v old mid new steps_before steps_now are kept same
     kind named may asked calls more_asked more_calls steps h =
@@ -175,28 +190,27 @@ judged_over before table name white black v old mid new steps_before steps_now a
     (belongs (table_format (kind_of may.bytes)) may.bytes contents may.opens).read in
     let there = file_opens (kind_by b) table name kept.bytes old.files mid.files same kind named
     read kept.may kept.file in
-    let begins = (belongs (table_format (kind_by b)) kept.bytes contents there.1).file.begins in
-    let judged = judged_as b before table white black kept.bytes v
-    (leans_by b kept.bytes begins) read there.1 (sym kept.white_is) (sym kept.black_is) h in
+    let leaning = leans_by b kept.bytes
+    (belongs (table_format (kind_by b)) kept.bytes contents there.1).file.begins in
+    let judged = judged_as b before table white black kept.bytes v leaning read there.1
+    (sym kept.white_is) (sym kept.black_is) h in
     record {
       table = record { bytes = kept.bytes; contents = contents };
       may = there.0;
       are_bytes = held_bytes mid.files table.name (Some kept.bytes) are kept.may;
       judged = judged;
       keeps =
-          ap (λ (l : List ℕ). back_with table.rules.groups l black) (sym kept.white_is)
-          ∙ ap (λ (l : List ℕ). back_with table.rules.groups (kept_codes contents kept.bytes White)
-          l) (sym kept.black_is);
+          link_kept table white black kept.bytes leaning (sym kept.white_is) (sym kept.black_is);
       within = within_one kept.bytes contents old mid new steps_before steps_now judged.opens asked
           calls more_asked more_calls steps;
     }
 
 -- the table is given, or its first wrong entry
-module _ (before : List Back) (name : List ℕ) (back : Back) (v : Verdict) (old new : StoreTold)
+module _ (before : List Back) (name : List ℕ) (link : Link) (v : Verdict) (old new : StoreTold)
     (steps_before steps_now : ℕ)
-    (h : JudgedOver before name back v old new steps_before steps_now) where
-  pub back_given : (result : Result BackTable BackFault) → GivesBack back v result
-      → IfOk result (λ b. OpensOver before name (loaded_back b) old new steps_before steps_now)
+    (h : JudgedOver before name link v old new steps_before steps_now) where
+  pub back_given : (result : Result BackTable BackFault) → GivesBack link v result
+      → IfOk result (λ b. OpensOver before name (link_loaded b) old new steps_before steps_now)
   back_given (Ok given) gives = record {
     table = h.table;
     may = h.may;
@@ -207,7 +221,7 @@ module _ (before : List Back) (name : List ℕ) (back : Back) (v : Verdict) (old
   }
   back_given (Err fault) gives = tt
 
-  pub back_wrong : (result : Result BackTable BackFault) → GivesBack back v result
+  pub back_wrong : (result : Result BackTable BackFault) → GivesBack link v result
       → IfErr result (RefusesOver before name old new steps_before steps_now)
   back_wrong (Ok given) gives = tt
   back_wrong (Err (one.Wrong wrong)) gives = record {

@@ -1,20 +1,19 @@
 -- Tables that are opened and loaded behind another, and not checked.
-use Rattle.std.specs.Prelude.{◌≡◌, ◌≤◌, ◌+◌, ℕ, suc, List, [], ◌∷◌, sum_by, Option, Some, Result, Ok, Err, ⊤}
+use Rattle.std.specs.Prelude.{◌≡◌, ◌≤◌, ◌+◌, ℕ, suc, List, [], ◌∷◌, map, sum_by, Option, Some, Result, Ok, Err, ⊤}
 use Rattle.std.specs.Option.{unwrap_or}
 use Rattle.frz_store.specs.Told.{StoreTold}
 use Rattle.frz_table.specs.declared.fault.TableFault.{TableFault}
 use Rattle.frz_table.specs.Numbers.{AreBytes}
 use Rattle.frz_table.specs.Opening.{Contents, Refuses, contents_of, opened, table_format}
 use Rattle.frz_table.specs.Possible.{MayHold}
-use Rattle.frz_chain.specs.Books.{Back}
-use Rattle.frz_chain.specs.FileOn.{back_of, loaded_back}
 use Rattle.frz_chain.specs.declared.back.BackTable.{BackTable}
-use Rattle.frz_atlas.specs.Behind.{TableBytes, backs_in, kind_held, leans}
+use Rattle.frz_backs.specs.Links.{Link}
+use Rattle.frz_backs.specs.Loaded.{link_loaded}
+use Rattle.frz_atlas.specs.Behind.{TableBytes, kind_held, link_of}
 use Rattle.frz_atlas.specs.Costs.{bytes_of, calls_of}
 use Rattle.frz_atlas.specs.Held.{MayHoldAll, all_held}
-use Rattle.frz_atlas.specs.Opening.{leans_as}
 use Rattle.frz_atlas.specs.declared.fault.AtlasFault.{AtlasFault}
-use Rattle.frz_atlas.specs.declared.fault.AtlasFault.TheVariants.{Rules, Table, Back as BackAt, Failed, NoMemory}
+use Rattle.frz_atlas.specs.declared.fault.AtlasFault.TheVariants.{Rules, Table, Back, Failed, NoMemory}
 use Rattle.frz_atlas.specs.declared.fault.BackFault.TheVariants.{Refused, Wrong}
 
 -- what is held, opened as its own kind
@@ -49,14 +48,15 @@ pub record WithinLoading (helds : List (Option (List ℕ))) (old new : StoreTold
   pub asked : new.asked ≤ old.asked + sum_by bytes_of helds
   pub calls : new.calls ≤ old.calls + sum_by calls_of helds
 
--- the name may hold bytes that open as their own kind, and this is the table in them, with its codes
+-- the name may hold bytes that open as their own kind, and this is the table in them, with its
+-- codes and its rules, and whether it leans on others
 pub record LoadsOne (name : List ℕ) (old new : StoreTold) (given : BackTable) : Type 0 where
   pub bytes : List ℕ
   pub may : MayHold old.files name (Some bytes)
   pub are_bytes : AreBytes bytes
   pub opens : opened_own (Some bytes) ≡ Ok (contents_of given.table)
-  pub leaning : leans bytes ≡ leans_as given.table.kind
-  pub keeps : loaded_back given ≡ back_of (contents_of given.table) bytes
+  pub keeps : link_loaded given
+      ≡ link_of (record { bytes = bytes; contents = contents_of given.table })
   pub within : WithinLoadingOne (Some bytes) old new
 
 -- the name may hold what is refused for this reason as its own kind; nothing is said where the
@@ -67,20 +67,21 @@ pub record RefusesOne (name : List ℕ) (old new : StoreTold) (fault : TableFaul
   pub refuses : Refuses (opened_own held) fault
   pub within : WithinLoadingOne held old new
 
--- the names may hold files that open, and these are the tables in them, with their codes
-pub record LoadsAll (names : List (List ℕ)) (backs : List Back) (old new : StoreTold)
+-- the names may hold files that open, and these are the tables in them, with their codes and their
+-- rules, and whether they lean on those before them
+pub record LoadsAll (names : List (List ℕ)) (links : List Link) (old new : StoreTold)
     : Type 0 where
   pub tables : List TableBytes
   pub may : MayHoldAll old.files names (all_held tables)
   pub opens : opened_all (all_held tables) ≡ Ok tables
-  pub keeps : backs ≡ backs_in tables
+  pub keeps : links ≡ map link_of tables
   pub within : WithinLoading (all_held tables) old new
 
 -- the first of these that is refused is so for this reason; nothing is said where the store failed
 -- or memory ran out
 abbrev pub IsOneUnopened : List (Option (List ℕ)) → AtlasFault → Type 0
-IsOneUnopened helds (BackAt place (Refused fault)) = opened_all helds ≡ Err (place, fault)
-IsOneUnopened helds (BackAt place (Wrong wrong)) = ⊥
+IsOneUnopened helds (Back place (Refused fault)) = opened_all helds ≡ Err (place, fault)
+IsOneUnopened helds (Back place (Wrong wrong)) = ⊥
 IsOneUnopened helds Failed = ⊤
 IsOneUnopened helds NoMemory = ⊤
 IsOneUnopened helds (Rules fault) = ⊥

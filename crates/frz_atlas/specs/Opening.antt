@@ -1,32 +1,27 @@
 -- What is found under the names of tables that stand behind another.
-use Rattle.std.specs.Prelude.{◌≡◌, ◌≤◌, ◌+◌, ℕ, Bool, true, false, List, [], length, Option, Some, Result, Ok, Err, ⊤}
+use Rattle.std.specs.Prelude.{◌≡◌, ◌≤◌, ◌+◌, ℕ, List, [], length, map, Option, Some, Result, Ok, Err, ⊤}
 use Rattle.frz_store.specs.Files.{Files}
 use Rattle.frz_store.specs.Told.{StoreTold}
 use Rattle.frz_table.specs.declared.fault.TableFault.{TableFault}
 use Rattle.frz_table.specs.declared.fault.TableFault.TheVariants.{Failed, NoMemory}
 use Rattle.frz_table.specs.declared.kind.FileKind.{FileKind}
-use Rattle.frz_table.specs.declared.kind.FileKind.TheVariants.{Plain, Chained, Atlas}
 use Rattle.frz_table.specs.Numbers.{AreBytes}
 use Rattle.frz_table.specs.Opening.{Contents, Refuses, opened, table_format}
 use Rattle.frz_table.specs.Possible.{MayHold, held_text}
+use Rattle.frz_table.specs.Tables.{Table}
 use Rattle.frz_check.specs.declared.verdict.Verdict.{Verdict}
 use Rattle.frz_check.specs.declared.verdict.Verdict.TheVariants.{Exact, Wrong as WrongCodes}
-use Rattle.frz_chain.specs.Books.{Back}
-use Rattle.frz_chain.specs.FileOn.{back_of, loaded_back}
+use Rattle.frz_chain.specs.Books.{Back, back_with}
 use Rattle.frz_chain.specs.declared.back.BackTable.{BackTable}
-use Rattle.frz_atlas.specs.Behind.{AreJudged, IsJudgedOver, IsRefusedAt, IsRefusedOver, TableBytes, backs_in, kind_by, kind_held, kind_of}
+use Rattle.frz_backs.specs.Links.{Link}
+use Rattle.frz_backs.specs.Loaded.{leans_as, link_loaded}
+use Rattle.frz_atlas.specs.Behind.{AreJudged, IsJudgedOver, IsRefusedAt, IsRefusedOver, TableBytes, kind_by, kind_held, kind_of, link_of}
 use Rattle.frz_atlas.specs.Costs.{WithinAll, WithinOne}
 use Rattle.frz_atlas.specs.Held.{MayHoldAll, all_held}
 use Rattle.frz_atlas.specs.declared.fault.AtlasFault.{AtlasFault}
 use Rattle.frz_atlas.specs.declared.fault.AtlasFault.TheVariants as atlas
 use Rattle.frz_atlas.specs.declared.fault.BackFault.{BackFault}
 use Rattle.frz_atlas.specs.declared.fault.BackFault.TheVariants as one
-
--- whether a table of this kind leans on others
-abbrev pub leans_as : FileKind → Bool
-leans_as Atlas = true
-leans_as Plain = false
-leans_as Chained = false
 
 -- the kind is one of the two as which files are opened here, Atlas and Plain
 abbrev pub IsOwnKind : FileKind → Type 0
@@ -46,20 +41,29 @@ pub record MayRefuseOwn (name : List ℕ) (old new : StoreTold) (fault : TableFa
   pub refuses : Refuses (opened (table_format (kind_held held)) held) fault
   pub asked : new.asked ≤ old.asked + (24 + length (held_text held))
 
--- the table is given if the verdict on its codes is exact, and else its first wrong entry
-abbrev pub GivesBack : Back → Verdict → Result BackTable BackFault → Type 0
-GivesBack back verdict (Ok given) = (verdict ≡ Exact) × (loaded_back given ≡ back)
-GivesBack back verdict (Err (one.Wrong wrong)) = verdict ≡ WrongCodes wrong
-GivesBack back verdict (Err (one.Refused fault)) = ⊥
+-- the open table with these codes, with its rules and whether it leans on those before it
+abbrev pub link_with : Table → (white black : List ℕ) → Link
+link_with table white black = record {
+  rules = table.rules;
+  leans = leans_as table.kind;
+  back = back_with table.rules.groups white black;
+}
 
--- the name may hold a table that is exact over those before it, and this is that table
-pub record OpensOver (before : List Back) (name : List ℕ) (back : Back) (old new : StoreTold)
+-- the table is given if the verdict on its codes is exact, and else its first wrong entry
+abbrev pub GivesBack : Link → Verdict → Result BackTable BackFault → Type 0
+GivesBack link verdict (Ok given) = (verdict ≡ Exact) × (link_loaded given ≡ link)
+GivesBack link verdict (Err (one.Wrong wrong)) = verdict ≡ WrongCodes wrong
+GivesBack link verdict (Err (one.Refused fault)) = ⊥
+
+-- the name may hold a table that is exact over those before it, and this is that table, with its
+-- rules, and whether it leans on those before it
+pub record OpensOver (before : List Back) (name : List ℕ) (link : Link) (old new : StoreTold)
     (steps_before steps_now : ℕ) : Type 0 where
   pub table : TableBytes
   pub may : MayHold old.files name (Some table.bytes)
   pub are_bytes : AreBytes table.bytes
   pub judged : IsJudgedOver before table Exact
-  pub keeps : back ≡ back_of table.contents table.bytes
+  pub keeps : link ≡ link_of table
   pub within : WithinOne (Some table.bytes) old new steps_before steps_now
 
 -- what the name holds is refused for this reason; nothing is said where the store failed or memory
@@ -76,13 +80,14 @@ pub record RefusesOver (before : List Back) (name : List ℕ) (old new : StoreTo
   pub refuses : MayBeRefused before held fault
   pub within : WithinOne held old new steps_before steps_now
 
--- the names may hold tables that are exact, each over those before it, and these are those tables
-pub record OpensAll (names : List (List ℕ)) (backs : List Back) (old new : StoreTold)
+-- the names may hold tables that are exact, each over those before it, and these are those tables,
+-- with their rules, and whether they lean on those before them
+pub record OpensAll (names : List (List ℕ)) (links : List Link) (old new : StoreTold)
     (steps_before steps_now : ℕ) : Type 0 where
   pub tables : List TableBytes
   pub may : MayHoldAll old.files names (all_held tables)
   pub exact : AreJudged tables
-  pub keeps : backs ≡ backs_in tables
+  pub keeps : links ≡ map link_of tables
   pub within : WithinAll (all_held tables) old new steps_before steps_now
 
 -- what one of the names holds is refused for this reason, and those before it hold exact tables;

@@ -6,7 +6,8 @@ use Rattle.frz_table.specs.Layout.{pieces_of}
 use Rattle.frz_table.specs.Opening.{contents_of, opened, opening_calls, table_format}
 use Rattle.frz_table.specs.Possible.{MayHold, held_text}
 use Rattle.frz_chain.specs.FileOn.{back_of, loaded_back}
-use Rattle.frz_atlas.specs.Behind.{TableBytes, backs_in}
+use Rattle.frz_backs.specs.Loaded.{link_loaded}
+use Rattle.frz_atlas.specs.Behind.{TableBytes, link_of}
 use Rattle.frz_atlas.specs.Checking.{OpensAtlas, own_size}
 use Rattle.frz_atlas.specs.Costs.{bytes_of, calls_of}
 use Rattle.frz_atlas.specs.Held.{MayHoldAll, all_held}
@@ -26,17 +27,18 @@ pub record WithinReading (held : Option (List ℕ)) (behind : List (Option (List
       + sum_by calls_of behind)
 
 -- the name may hold a table that leans on others, the names behind may hold tables, and these are
--- they, with their codes
+-- they, with their codes; of those behind also whether they lean on those before them
 pub record LoadsAtlas (table : List ℕ) (behind : List (List ℕ)) (old new : StoreTold)
     (loaded : LoadedAtlas) : Type 0 where
   pub bytes : List ℕ
   pub may : MayHold old.files table (Some bytes)
   pub opens : opened (table_format Atlas) (Some bytes) ≡ Ok (contents_of loaded.table.table)
+  pub leaning : loaded.table.table.kind ≡ Atlas
   pub keeps : loaded_back loaded.table ≡ back_of (contents_of loaded.table.table) bytes
   pub tables : List TableBytes
   pub may_all : MayHoldAll old.files behind (all_held tables)
   pub all_open : opened_all (all_held tables) ≡ Ok tables
-  pub all_keep : map loaded_back loaded.backs.items ≡ backs_in tables
+  pub all_keep : map link_loaded loaded.backs.items ≡ map link_of tables
   pub within : WithinReading (Some bytes) (all_held tables) old new
 
 -- the table's file is refused for this reason, or it opens and the first of those behind it that is

@@ -16,6 +16,6 @@ pub use building::{build_atlas, build_over};
 pub use checking::{Checked, check_atlas};
 pub use fault::{AtlasFault, BackFault};
 pub use kinds::open_own;
-pub use loading::load_behind;
+pub use loading::{load_behind, load_own};
 pub use opening::{open_behind, open_over};
 pub use reading::{LoadedAtlas, load_atlas};

@@ -2,7 +2,7 @@
 ghost use Rattle.std.specs.Prelude.{◌≡◌, map, IfOk, IfErr};
 ghost use Rattle.std.specs.String.{string_bytes};
 ghost use Rattle.frz_store.specs.Told.{store_of, StoreQuiet};
-ghost use Rattle.frz_chain.specs.FileOn.{loaded_back};
+ghost use Rattle.frz_backs.specs.Loaded.{link_loaded};
 ghost use Rattle.frz_atlas.specs.Causes.{HasAtlasCause, HasFileCause};
 ghost use Rattle.frz_atlas.specs.Loading.{LoadsAll, LoadsOne, RefusesOne, RefusesToLoad};
 
@@ -13,8 +13,8 @@ use frz_store::Store;
 use frz_table::TableFault;
 use std::alloc::Global;
 
-/// Opens the table of this name as its own kind, and loads its codes.
-pub(crate) fn load_own<S: Store>(
+/// Opens the table of this name as its own kind, and loads its codes, which are not checked.
+pub fn load_own<S: Store>(
     alloc: Global,
     store: &mut S,
     name: &str,
@@ -43,7 +43,7 @@ pub fn load_behind<S: Store>(
     names: &[String],
 ) -> Result<Vec<BackTable>, AtlasFault>
     ensures loaded { IfOk result (λ backs. LoadsAll (map string_bytes names.now)
-        (map loaded_back backs.items) (store_of S.Store store.old) (store_of S.Store store.new)) }
+        (map link_loaded backs.items) (store_of S.Store store.old) (store_of S.Store store.new)) }
     ensures refused { IfErr result (RefusesToLoad (map string_bytes names.now)
         (store_of S.Store store.old) (store_of S.Store store.new)) }
     ensures quiet { StoreQuiet (store_of S.Store store.old) (store_of S.Store store.new) }

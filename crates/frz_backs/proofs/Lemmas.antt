@@ -3,6 +3,7 @@ pub use Rattle.frz_backs.proofs.DecidedTables.{tables_decide}
 pub use Rattle.frz_backs.proofs.FewTables.{as_a_chain, lines_alone}
 pub use Rattle.frz_backs.proofs.FirstValue.{first_of, front_tells, none_tell, one_tells}
 pub use Rattle.frz_backs.proofs.LinkPlies.{mates_within, tables_within}
+pub use Rattle.frz_backs.proofs.LoadedTables.{loaded_backs}
 pub use Rattle.frz_backs.proofs.SmallLags.{atlas_small, first_small, over_small}
 pub use Rattle.frz_backs.proofs.TablePlies.{TellsWithin, over_forced}
 pub use Rattle.frz_backs.proofs.Transfer.{codes_tell}

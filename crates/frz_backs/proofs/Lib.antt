@@ -1,5 +1,6 @@
 pub mod Lemmas
 mod FirstValue
+mod LoadedTables
 mod SmallLags
 mod FewTables
 mod TrueTables

@@ -1,4 +1,5 @@
 pub mod Values
 pub mod Links
+pub mod Loaded
 pub mod LinkPlies
 pub mod Decided

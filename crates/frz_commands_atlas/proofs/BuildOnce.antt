@@ -24,10 +24,9 @@ use Rattle.frz_prelude.proofs.Lemmas.{refusal_said}
 use Rattle.frz_atlas.specs.Behind.{TableBytes, backs_in}
 use Rattle.frz_atlas.specs.FileOver.{IsFileOver}
 use Rattle.frz_atlas.specs.declared.fault.BackFault.{BackFault}
-use Rattle.frz_commands_atlas.specs.BackLines.{back_line, back_status}
+use Rattle.frz_atlas_prelude.specs.BackLines.{back_line, back_status}
+use Rattle.frz_atlas_prelude.proofs.Lemmas.{AllFound, all_exact, all_found, back_said, never_refused, one_place, one_refused, one_tables}
 use Rattle.frz_commands_atlas.specs.Building.{IsBuiltAt, MakesAtlas, made, no_back, no_rules}
-use Rattle.frz_commands_atlas.proofs.CheckOnce.{back_said}
-use Rattle.frz_commands_atlas.proofs.TablesOnce.{AllFound, all_exact, all_found, never_refused, one_place, one_refused, one_tables}
 
 -- there is one file over tables, and only one
 pub file_over : (text : List ℕ) (lines : RuleLines) (tables : List TableBytes)

@@ -42,15 +42,14 @@ use Rattle.frz_atlas.specs.declared.fault.AtlasFault.{AtlasFault}
 use Rattle.frz_atlas.specs.declared.fault.AtlasFault.TheVariants.{Rules, Table, Back, Failed, NoMemory}
 use Rattle.frz_atlas.specs.declared.fault.BackFault.{BackFault}
 use Rattle.frz_atlas.specs.declared.fault.BackFault.TheVariants.{Refused, Wrong}
-use Rattle.frz_commands_atlas.specs.declared.names.TheConstants.{MOST_BACKS}
-use Rattle.frz_commands_atlas.specs.BackLines.{back_status}
+use Rattle.frz_atlas_prelude.specs.declared.names.TheConstants.{MOST_BACKS}
+use Rattle.frz_atlas_prelude.specs.BackLines.{back_status}
+use Rattle.frz_atlas_prelude.specs.Ending.{EndsAt, HasSmallPlace}
+use Rattle.frz_atlas_prelude.specs.Names.{has_twice}
+use Rattle.frz_atlas_prelude.specs.Tables.{AreTablesIn}
+use Rattle.frz_atlas_prelude.proofs.Lemmas.{HoldingAll, ended_at, holding_all, judged_exact, may_hold_first, may_hold_there, place_refused, same_first, same_rest, without_second}
 use Rattle.frz_commands_atlas.specs.Building.{IsBuiltAt, build_costs, building_at, if_rules, made, no_back, no_rules, size_by}
-use Rattle.frz_commands_atlas.specs.Ending.{EndsAt, HasSmallPlace}
-use Rattle.frz_commands_atlas.specs.Names.{has_twice}
-use Rattle.frz_commands_atlas.specs.Tables.{AreTablesIn}
 use Rattle.frz_commands_atlas.proofs.BuildOnce.{held_rules, some_build}
-use Rattle.frz_commands_atlas.proofs.Ended.{ended_at}
-use Rattle.frz_commands_atlas.proofs.HeldNames.{HoldingAll, as_many, holding_all, judged_exact, may_hold_first, may_hold_there, place_below, same_first, same_rest, without_second}
 
 -- each end has a status of `build`
 pub own_stop : (rules table : List ℕ) (behind : List (List ℕ)) (held : Option (List ℕ))
@@ -327,7 +326,6 @@ small_place text table behind old new before now fault few r = by_fault fault r.
     by_fault (Rules f) refused = tt
     by_fault (Table f) refused = tt
     by_fault (Back place f) refused =
-        let below = place_below [] r.helds place f refused.1 in
-        let many = as_many old.files behind r.helds r.may_all in omega (arith, below, many, few)
+        place_refused behind few old.files r.helds r.may_all place f refused.1
     by_fault Failed refused = tt
     by_fault NoMemory refused = tt

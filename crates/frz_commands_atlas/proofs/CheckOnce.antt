@@ -25,32 +25,15 @@ use Rattle.frz_atlas.specs.Behind.{TableBytes, backs_in}
 use Rattle.frz_atlas.specs.Checking.{sizes_in}
 use Rattle.frz_atlas.specs.declared.fault.BackFault.{BackFault}
 use Rattle.frz_atlas.specs.declared.fault.BackFault.TheVariants.{Refused, Wrong}
-use Rattle.frz_commands_atlas.specs.BackLines.{back_line, back_status}
+use Rattle.frz_atlas_prelude.specs.BackLines.{back_line, back_status}
+use Rattle.frz_atlas_prelude.proofs.Lemmas.{AllFound, all_exact, all_found, back_said, never_refused, not_both, one_place, one_refused, one_tables}
 use Rattle.frz_commands_atlas.specs.Checking.{IsCheckedAt, IsJudgedAtlas, judged, no_back, no_table, verdict_line, verdict_status}
-use Rattle.frz_commands_atlas.proofs.TablesOnce.{AllFound, all_exact, all_found, never_refused, one_place, one_refused, one_tables}
-
--- each fault of a table behind is said
-pub back_said : (place : ℕ) (fault : BackFault) → back_line place fault ≡ [] → ⊥
-back_said place (Refused table_faults.Missing) e = cc
-back_said place (Refused table_faults.Magic) e = cc
-back_said place (Refused (table_faults.Truncated length due)) e = cc
-back_said place (Refused (table_faults.Extra length due)) e = cc
-back_said place (Refused (table_faults.Rules fault)) e = cc
-back_said place (Refused (table_faults.Size kept due)) e = cc
-back_said place (Refused table_faults.Failed) e = cc
-back_said place (Refused table_faults.NoMemory) e = cc
-back_said place (Wrong wrong) e = cc
 
 -- of one result
 same_fault : (x : Result Contents TableFault) (one other : TableFault) → x ≡ Err one
     → x ≡ Err other → one ≡ other
 same_fault x one other e f = (let same : ◌≡◌ {A = Result Contents TableFault} (Err one) (Err other) =
     sym e ∙ f in cc)
-
-pub not_both : (x : Result Contents TableFault) (contents : Contents) (fault : TableFault)
-    → x ≡ Ok contents → x ≡ Err fault → ⊥
-not_both x contents fault e f =
-    (let same : ◌≡◌ {A = Result Contents TableFault} (Ok contents) (Err fault) = sym e ∙ f in cc)
 
 same_contents : (x : Result Contents TableFault) (one other : Contents) → x ≡ Ok one
     → x ≡ Ok other → one ≡ other

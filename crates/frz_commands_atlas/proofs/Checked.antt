@@ -25,16 +25,14 @@ use Rattle.frz_atlas.specs.declared.fault.AtlasFault.{AtlasFault}
 use Rattle.frz_atlas.specs.declared.fault.AtlasFault.TheVariants.{Rules, Table, Back, Failed, NoMemory}
 use Rattle.frz_atlas.specs.declared.fault.BackFault.{BackFault}
 use Rattle.frz_atlas.specs.declared.fault.BackFault.TheVariants.{Refused, Wrong}
-use Rattle.frz_commands_atlas.specs.declared.names.TheConstants.{MOST_BACKS}
-use Rattle.frz_commands_atlas.specs.BackLines.{back_status}
+use Rattle.frz_atlas_prelude.specs.declared.names.TheConstants.{MOST_BACKS}
+use Rattle.frz_atlas_prelude.specs.BackLines.{back_status}
+use Rattle.frz_atlas_prelude.specs.Ending.{EndsAt, HasSmallPlace}
+use Rattle.frz_atlas_prelude.specs.Names.{has_twice}
+use Rattle.frz_atlas_prelude.proofs.Lemmas.{AnswersAt, Holds, MayEndAt, ended_at, holds, judged_exact, place_refused}
 use Rattle.frz_commands_atlas.specs.Checking.{check_costs, judged, no_back, no_table, verdict_line, verdict_status}
 use Rattle.frz_commands_atlas.specs.CheckMeans.{checking_at}
-use Rattle.frz_commands_atlas.specs.Ending.{EndsAt, HasSmallPlace}
-use Rattle.frz_commands_atlas.specs.Names.{has_twice}
 use Rattle.frz_commands_atlas.proofs.CheckOnce.{some_check}
-use Rattle.frz_commands_atlas.proofs.Ended.{AnswersAt, MayEndAt, ended_at}
-use Rattle.frz_commands_atlas.proofs.HeldNames.{as_many, judged_exact, place_below}
-use Rattle.frz_commands_atlas.proofs.HeldTable.{Holds, holds}
 
 -- each end has a status of `check`
 own_verdict : (v : Verdict) (table : List ℕ) (behind : List (List ℕ))
@@ -182,7 +180,6 @@ small_place table behind old new before now fault few r =
     by_fault (Rules f) refused = tt
     by_fault (Table f) refused = tt
     by_fault (Back place f) refused =
-        let below = place_below [] r.helds place f refused.1 in
-        let many = as_many old.files behind r.helds r.may_all in omega (arith, below, many, few)
+        place_refused behind few old.files r.helds r.may_all place f refused.1
     by_fault Failed refused = tt
     by_fault NoMemory refused = tt

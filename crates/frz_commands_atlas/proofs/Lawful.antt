@@ -12,10 +12,11 @@ use Rattle.frz_prelude.specs.declared.refused.Refused.{Refused as Refusal}
 use Rattle.frz_prelude.proofs.Lemmas.{by_table_status, of_rules as by_rules}
 use Rattle.frz_atlas.specs.declared.fault.BackFault.{BackFault}
 use Rattle.frz_atlas.specs.declared.fault.BackFault.TheVariants.{Refused, Wrong}
-use Rattle.frz_commands_atlas.specs.BackLines.{back_status}
-use Rattle.frz_commands_atlas.specs.Building.{IsBuiltAt, MeansBuild, MeansByStatus, Refuses, build_words, building_at, made, no_back, no_rules, of_back, of_rules}
+use Rattle.frz_atlas_prelude.specs.BackLines.{back_status}
+use Rattle.frz_atlas_prelude.specs.RulesRefusals.{Refuses, of_back, of_rules}
+use Rattle.frz_atlas_prelude.specs.Names.{build_names_of, has_twice, table_names_of}
+use Rattle.frz_commands_atlas.specs.Building.{IsBuiltAt, MeansBuild, MeansByStatus, build_words, building_at, made, no_back, no_rules}
 use Rattle.frz_commands_atlas.specs.CheckMeans.{check_words, checking_at}
-use Rattle.frz_commands_atlas.specs.Names.{build_names_of, has_twice, table_names_of}
 use Rattle.frz_commands_atlas.proofs.BuildOnce.{one_built}
 use Rattle.frz_commands_atlas.proofs.CheckMeaning.{check_means}
 use Rattle.frz_commands_atlas.proofs.CheckOnce.{one_checked}

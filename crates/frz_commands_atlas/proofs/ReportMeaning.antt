@@ -28,9 +28,10 @@ use Rattle.frz_answer.specs.Words.{unless}
 use Rattle.frz_answer.proofs.Lemmas.{one_answer, taking_lawful, unless_lawful}
 use Rattle.frz_prelude.specs.declared.refused.Refused.TheVariants as refusals
 use Rattle.frz_prelude.proofs.Lemmas.{by_table_status, refusal_said}
-use Rattle.frz_commands_atlas.specs.Names.{has_twice, table_names_of}
-use Rattle.frz_commands_atlas.specs.Reporting.{MeansReport, MeansStatus, of_back, of_table, report_at, report_behind, report_by, report_words, reporting_at, value_behind}
-use Rattle.frz_commands_atlas.proofs.CheckOnce.{back_said, not_both}
+use Rattle.frz_atlas_prelude.specs.Names.{has_twice, table_names_of}
+use Rattle.frz_atlas_prelude.specs.TableRefusals.{of_back, of_table}
+use Rattle.frz_atlas_prelude.proofs.Lemmas.{back_said, not_both}
+use Rattle.frz_commands_atlas.specs.Reporting.{MeansReport, MeansStatus, report_at, report_behind, report_by, report_words, reporting_at, value_behind}
 
 abbrev Opened : Type 0
 Opened = Result (List TableBytes) (ℕ × TableFault)

@@ -17,7 +17,9 @@ use Rattle.frz_table.specs.Tables.{table_size}
 use Rattle.frz_check.specs.Kept.{kept_codes, opened_size}
 use Rattle.frz_chain.specs.Books.{Back}
 use Rattle.frz_chain.specs.FileOn.{loaded_back}
+use Rattle.frz_backs.specs.Loaded.{link_loaded}
 use Rattle.frz_backs.specs.Values.{atlas_value}
+use Rattle.frz_backs.proofs.Lemmas.{loaded_backs}
 use Rattle.frz_atlas.specs.Behind.{TableBytes}
 use Rattle.frz_atlas.specs.Causes.{HasAtlasCause}
 use Rattle.frz_atlas.specs.Checking.{own_size}
@@ -28,7 +30,7 @@ use Rattle.frz_atlas.specs.declared.fault.AtlasFault.{AtlasFault}
 use Rattle.frz_atlas.specs.declared.fault.AtlasFault.TheVariants.{Rules, Table, Back as BackAt, Failed, NoMemory}
 use Rattle.frz_atlas.specs.declared.fault.BackFault.TheVariants.{Refused, Wrong}
 use Rattle.frz_atlas.specs.declared.reading.LoadedAtlas.{LoadedAtlas}
-use Rattle.frz_atlas.proofs.Lemmas.{unopened_below}
+use Rattle.frz_atlas.proofs.Lemmas.{kept_backs}
 use Rattle.frz_report.specs.declared.fault.ReportFault.{ReportFault}
 use Rattle.frz_report.specs.declared.fault.ReportFault.TheVariants as report_faults
 use Rattle.frz_report.specs.declared.fault.Totals.{Totals}
@@ -42,13 +44,10 @@ use Rattle.frz_answer.specs.Jobs.{WithinCosts}
 use Rattle.frz_answer.specs.World.{World, world, Agrees, spent}
 use Rattle.frz_answer.proofs.Lemmas.{Begun, SaysAll, fine_store, quiet_both}
 use Rattle.frz_prelude.proofs.Lemmas.{found_where, table_own}
-use Rattle.frz_commands_atlas.specs.declared.names.TheConstants.{MOST_BACKS}
-use Rattle.frz_commands_atlas.specs.Ending.{EndsAt, HasSmallPlace}
-use Rattle.frz_commands_atlas.specs.Names.{has_twice}
+use Rattle.frz_atlas_prelude.specs.Ending.{EndsAt}
+use Rattle.frz_atlas_prelude.specs.Names.{has_twice}
+use Rattle.frz_atlas_prelude.proofs.Lemmas.{AnswersAt, Holds, MayEndAt, ended_at, holds}
 use Rattle.frz_commands_atlas.specs.Reporting.{report_at, report_by, report_costs, report_over, reporting_at, value_behind}
-use Rattle.frz_commands_atlas.proofs.Ended.{AnswersAt, MayEndAt, ended_at}
-use Rattle.frz_commands_atlas.proofs.HeldNames.{as_many}
-use Rattle.frz_commands_atlas.proofs.HeldTable.{Holds, holds}
 use Rattle.frz_commands_atlas.proofs.ReportMeaning.{some_at}
 
 may_report : (table : List ℕ) (behind : List (List ℕ)) → MayReport (reporting_at table behind)
@@ -154,7 +153,8 @@ module _ (table : List ℕ) (behind : List (List ℕ)) (apart : has_twice (table
         (λ side. of_side side b.white b.black) result out after) l.keeps
         (subst (λ (b : List Back). WritesReport contents.rules (atlas_value contents.rules b)
         (λ side. of_side side given.table.white.items given.table.black.items) result out after)
-        l.all_keep h))
+        (sym (loaded_backs given.backs.items)
+        ∙ kept_backs (map link_loaded given.backs.items) l.tables l.all_keep) h))
       where
         same : (side : Colour) → of_side side (kept White) (kept Black) ≡ kept side
         same White = refl
@@ -237,19 +237,3 @@ module _ (table : List ℕ) (behind : List (List ℕ)) (apart : has_twice (table
         (quiet_both old new input out before now quiet later) fault
         (may_end fault r.refuses cause) ends
         (λ files left agrees. answers_at fault r.refuses files left agrees)
-
--- the place that is told is one of the names behind
-pub small_place : (table : List ℕ) (behind : List (List ℕ)) (old new : StoreTold)
-    (fault : AtlasFault) → length behind ≤ MOST_BACKS → RefusesToRead table behind old new fault
-    → HasSmallPlace fault
-small_place table behind old new fault few r = by_fault fault r.refuses
-  where
-    by_fault : (f : AtlasFault) → IsUnopenedAtlas r.held r.helds f → HasSmallPlace f
-    by_fault (Rules f) refused = tt
-    by_fault (Table f) refused = tt
-    by_fault (BackAt place (Refused f)) refused =
-        let below = unopened_below r.helds place f refused.1 in
-        let many = as_many old.files behind r.helds r.may_all in omega (arith, below, many, few)
-    by_fault (BackAt place (Wrong wrong)) refused = absurd refused
-    by_fault Failed refused = tt
-    by_fault NoMemory refused = tt

@@ -7,7 +7,6 @@ use Rattle.frz_answer.specs.declared.status.Status.TheVariants as statuses
 use Rattle.frz_answer.specs.Answers.{Answer, says}
 use Rattle.frz_answer.specs.Jobs.{Costs, Job, Once, plain, WithinCosts}
 use Rattle.frz_answer.specs.Words.{taking, unless}
-use Rattle.frz_prelude.specs.Refusals.{refusal_line, status_of}
 use Rattle.frz_prelude.specs.Replies.{built_line}
 use Rattle.frz_prelude.specs.RulesFiles.{asked_of, reads_of, rules_held}
 use Rattle.frz_prelude.specs.declared.refused.Refused.{Refused}
@@ -15,13 +14,12 @@ use Rattle.frz_sets.specs.Sets.{size_of}
 use Rattle.frz_sets.specs.Views.{RuleLines}
 use Rattle.frz_rules.specs.Text.{rules_of}
 use Rattle.frz_build.specs.Building.{writing_calls}
-use Rattle.frz_atlas.specs.Behind.{IsRefusedAt, TableBytes, backs_in}
+use Rattle.frz_atlas.specs.Behind.{TableBytes, backs_in}
 use Rattle.frz_atlas.specs.Costs.{bytes_of, calls_of, steps_of}
 use Rattle.frz_atlas.specs.FileOver.{IsFileOver}
-use Rattle.frz_atlas.specs.declared.fault.BackFault.{BackFault}
-use Rattle.frz_commands_atlas.specs.BackLines.{back_line, back_status}
-use Rattle.frz_commands_atlas.specs.Names.{build_names_of, has_twice}
-use Rattle.frz_commands_atlas.specs.Tables.{AreTablesIn}
+use Rattle.frz_atlas_prelude.specs.Names.{build_names_of, has_twice}
+use Rattle.frz_atlas_prelude.specs.RulesRefusals.{Refuses, RefusesBack, RefusesRules}
+use Rattle.frz_atlas_prelude.specs.Tables.{AreTablesIn}
 
 -- RULES holds a text that is accepted, and the BACKs hold tables that are exact, each over those
 -- before it. Afterwards TABLE holds the one file of the text over them, and every other name what
@@ -38,34 +36,12 @@ pub record MakesAtlas (rules table : List ℕ) (behind : List (List ℕ)) (files
   pub one_file : IsFileOver text lines (backs_in tables) bytes
   pub told : a ≡ says statuses.Success (built_line (size_of lines.groups)) (put files table bytes)
 
--- the file named RULES holds no accepted rules, and the line says why
-pub record RefusesRules (rules : List ℕ) (files : Files) (a : Answer) : Type 0 where
-  pub why : Refused
-  pub refused : rules_held (files rules) ≡ Err why
-  pub told : a ≡ says (status_of why) (refusal_line why) files
-
--- RULES holds a text that is accepted. The BACK at this place is refused, and all before it are
--- exact; the line counts places from 1
-pub record RefusesBack (rules : List ℕ) (behind : List (List ℕ)) (files : Files)
-    (a : Answer) : Type 0 where
-  pub lines : RuleLines
-  pub accepted : rules_held (files rules) ≡ Ok lines
-  pub place : ℕ
-  pub fault : BackFault
-  pub refused : IsRefusedAt [] (map files behind) place fault
-  pub told : a ≡ says (back_status fault) (back_line place fault) files
-
 -- RULES or one of the BACKs is refused, the first in this order, or the table is made
 pub data IsBuiltAt (rules table : List ℕ) (behind : List (List ℕ)) (files : Files)
     (a : Answer) : Type 0 where
   no_rules : RefusesRules rules files a → IsBuiltAt rules table behind files a
   no_back : RefusesBack rules behind files a → IsBuiltAt rules table behind files a
   made : MakesAtlas rules table behind files a → IsBuiltAt rules table behind files a
-
--- the file named RULES is refused, or one of the BACKs
-pub data Refuses (rules : List ℕ) (behind : List (List ℕ)) (files : Files) (a : Answer) : Type 0 where
-  of_rules : RefusesRules rules files a → Refuses rules behind files a
-  of_back : RefusesBack rules behind files a → Refuses rules behind files a
 
 -- what an answer says, by its status; a refusal changes no file
 abbrev pub MeansByStatus : List ℕ → List ℕ → List (List ℕ) → Files → Answer → Status → Type 0

@@ -15,10 +15,11 @@ use Rattle.frz_prelude.specs.WrongLines.{wrong_line}
 use Rattle.frz_atlas.specs.Behind.{TableBytes, backs_in}
 use Rattle.frz_atlas.specs.Checking.{sizes_in}
 use Rattle.frz_atlas.specs.FileOver.{IsFileOver}
+use Rattle.frz_atlas_prelude.specs.Names.{has_twice, table_names_of}
+use Rattle.frz_atlas_prelude.specs.TableRefusals.{RefusesBehind, RefusesTable}
+use Rattle.frz_atlas_prelude.specs.Tables.{AreTablesIn}
 use Rattle.frz_commands_atlas.specs.AtlasHeadline.{AtlasHeadline}
-use Rattle.frz_commands_atlas.specs.Checking.{IsCheckedAt, IsJudgedAtlas, RefusesBehind, RefusesTable, check_costs, exact_over_line}
-use Rattle.frz_commands_atlas.specs.Names.{has_twice, table_names_of}
-use Rattle.frz_commands_atlas.specs.Tables.{AreTablesIn}
+use Rattle.frz_commands_atlas.specs.Checking.{IsCheckedAt, IsJudgedAtlas, check_costs, exact_over_line}
 
 -- all tables are exact, and the text tells their sizes
 pub record TellsExactOver (table : List ℕ) (behind : List (List ℕ)) (files : Files)

@@ -1,31 +1,26 @@
 -- What `check TABLE BACK ..` answers: the sizes of tables that are exact over each other, or the
 -- first entry that is wrong. No file changes.
-use Rattle.std.specs.Prelude.{◌≡◌, ℕ, ◌+◌, ◌*◌, List, [], ◌∷◌, ◌++◌, length, map, sum_by, Option, Some, Ok, Err, codes, decimal}
+use Rattle.std.specs.Prelude.{◌≡◌, ℕ, ◌+◌, List, [], ◌∷◌, ◌++◌, map, sum_by, Option, Some, Ok, codes, decimal}
 use Rattle.frz_sets.specs.Sets.{size_of}
 use Rattle.frz_store.specs.Files.{Files}
-use Rattle.frz_table.specs.declared.fault.TableFault.{TableFault}
 use Rattle.frz_table.specs.declared.kind.FileKind.TheVariants.{Atlas}
-use Rattle.frz_table.specs.Layout.{pieces_of}
-use Rattle.frz_table.specs.Opening.{Contents, opened, opening_calls, table_format}
-use Rattle.frz_table.specs.Possible.{held_text}
+use Rattle.frz_table.specs.Opening.{Contents, opened, table_format}
 use Rattle.frz_check.specs.declared.verdict.Verdict.{Verdict}
 use Rattle.frz_check.specs.declared.verdict.Verdict.TheVariants as verdict
 use Rattle.frz_check.specs.Kept.{kept_codes}
 use Rattle.frz_check.specs.Verdicts.{IsVerdict}
 use Rattle.frz_backs.specs.Values.{atlas_value}
-use Rattle.frz_atlas.specs.Behind.{IsRefusedAt, TableBytes, backs_in}
-use Rattle.frz_atlas.specs.Checking.{OpensAtlas, own_size, sizes_in}
-use Rattle.frz_atlas.specs.Costs.{bytes_of, calls_of, steps_of}
-use Rattle.frz_atlas.specs.declared.fault.BackFault.{BackFault}
+use Rattle.frz_atlas.specs.Behind.{TableBytes, backs_in}
+use Rattle.frz_atlas.specs.Checking.{own_size, sizes_in}
+use Rattle.frz_atlas.specs.Costs.{steps_of}
 use Rattle.frz_answer.specs.declared.status.Status.{Status}
 use Rattle.frz_answer.specs.declared.status.Status.TheVariants as statuses
 use Rattle.frz_answer.specs.Answers.{Answer, says}
 use Rattle.frz_answer.specs.Jobs.{Costs}
-use Rattle.frz_prelude.specs.Refusals.{table_status}
-use Rattle.frz_prelude.specs.TableCauses.{table_line}
 use Rattle.frz_prelude.specs.WrongLines.{wrong_line}
-use Rattle.frz_commands_atlas.specs.BackLines.{back_line, back_status}
-use Rattle.frz_commands_atlas.specs.Tables.{AreTablesIn}
+use Rattle.frz_atlas_prelude.specs.Costs.{loading_bytes, loading_calls}
+use Rattle.frz_atlas_prelude.specs.TableRefusals.{RefusesBehind, RefusesTable}
+use Rattle.frz_atlas_prelude.specs.Tables.{AreTablesIn}
 
 -- the sizes one after another, and the end of the line
 abbrev pub sizes_text : List ℕ → List ℕ
@@ -59,22 +54,6 @@ pub record IsJudgedAtlas (held : Option (List ℕ)) (behind : List (Option (List
   pub judged : IsVerdict contents.rules (atlas_value contents.rules (backs_in tables))
       (kept_codes contents bytes) judgement
 
--- TABLE is refused, and the line says why
-pub record RefusesTable (table : List ℕ) (files : Files) (a : Answer) : Type 0 where
-  pub fault : TableFault
-  pub refused : opened (table_format Atlas) (files table) ≡ Err fault
-  pub told : a ≡ says (table_status fault) (table_line fault) files
-
--- TABLE opens. The BACK at this place is refused, and all before it are exact; the line counts
--- places from 1
-pub record RefusesBehind (table : List ℕ) (behind : List (List ℕ)) (files : Files)
-    (a : Answer) : Type 0 where
-  pub opens : OpensAtlas (files table)
-  pub place : ℕ
-  pub fault : BackFault
-  pub refused : IsRefusedAt [] (map files behind) place fault
-  pub told : a ≡ says (back_status fault) (back_line place fault) files
-
 -- TABLE or one of the BACKs is refused, the first in this order, or the verdict is told
 pub data IsCheckedAt (table : List ℕ) (behind : List (List ℕ)) (files : Files)
     (a : Answer) : Type 0 where
@@ -90,7 +69,6 @@ pub data IsCheckedAt (table : List ℕ) (behind : List (List ℕ)) (files : File
 abbrev pub check_costs : Option (List ℕ) → List (Option (List ℕ)) → Costs
 check_costs held behind = record {
   steps = Some (own_size held + sum_by steps_of behind);
-  calls = Some (opening_calls (table_format Atlas) held + 2 * pieces_of (own_size held)
-      + sum_by calls_of behind);
-  asked = Some (16 + length (held_text held) + 8 * own_size held + sum_by bytes_of behind);
+  calls = Some (loading_calls held behind);
+  asked = Some (loading_bytes held behind);
 }

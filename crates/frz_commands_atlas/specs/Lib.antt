@@ -1,8 +1,4 @@
 pub mod Sizing
-pub mod Names
-pub mod BackLines
-pub mod Ending
-pub mod Tables
 pub mod Building
 pub mod Checking
 pub mod AtlasHeadline

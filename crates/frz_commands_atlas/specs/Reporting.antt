@@ -15,7 +15,7 @@ use Rattle.frz_check.specs.KeptTables.{KeepsBound, KeepsTables}
 use Rattle.frz_backs.specs.Links.{AreTrueLines}
 use Rattle.frz_backs.specs.Values.{atlas_value}
 use Rattle.frz_atlas.specs.Behind.{AreJudged, TableBytes, backs_in, link_of}
-use Rattle.frz_atlas.specs.Checking.{OpensAtlas, own_size}
+use Rattle.frz_atlas.specs.Checking.{own_size}
 use Rattle.frz_atlas.specs.Loading.{opened_all}
 use Rattle.frz_atlas.specs.declared.fault.BackFault.TheVariants.{Refused}
 use Rattle.frz_report.specs.Reports.{report_text}
@@ -27,9 +27,10 @@ use Rattle.frz_answer.specs.Words.{taking, unless}
 use Rattle.frz_prelude.specs.Refusals.{table_status}
 use Rattle.frz_prelude.specs.TableCauses.{table_line}
 use Rattle.frz_prelude.specs.TableFiles.{OpensAsKind}
-use Rattle.frz_commands_atlas.specs.BackLines.{back_line}
-use Rattle.frz_commands_atlas.specs.Checking.{RefusesTable, check_costs}
-use Rattle.frz_commands_atlas.specs.Names.{has_twice, table_names_of}
+use Rattle.frz_atlas_prelude.specs.BackLines.{back_line}
+use Rattle.frz_atlas_prelude.specs.Names.{has_twice, table_names_of}
+use Rattle.frz_atlas_prelude.specs.TableRefusals.{TellsRefusal}
+use Rattle.frz_commands_atlas.specs.Checking.{check_costs}
 
 -- the value of an exit of a table over these: by its exit lines, and by the first of these tables
 -- whose set holds the position where the lines say nothing
@@ -80,22 +81,6 @@ pub record TellsReport (table : List ℕ) (behind : List (List ℕ)) (files : Fi
   pub true_exits : AreJudged tables → AreTrueExits contents.rules (value_by contents.rules) →
       AreTrueLines (map link_of tables) →
       AreTrueExits contents.rules (value_behind contents tables)
-
--- TABLE opens, and the BACK at this place is the first that is refused; the line counts places from
--- 1
-pub record RefusesOpening (table : List ℕ) (behind : List (List ℕ)) (files : Files)
-    (a : Answer) : Type 0 where
-  pub opens : OpensAtlas (files table)
-  pub place : ℕ
-  pub fault : TableFault
-  pub refused : opened_all (map files behind) ≡ Err (place, fault)
-  pub told : a ≡ says (table_status fault) (back_line place (Refused fault)) files
-
--- TABLE is refused, or one of the BACKs
-pub data TellsRefusal (table : List ℕ) (behind : List (List ℕ)) (files : Files)
-    (a : Answer) : Type 0 where
-  of_table : RefusesTable table files a → TellsRefusal table behind files a
-  of_back : RefusesOpening table behind files a → TellsRefusal table behind files a
 
 -- what an answer says, by its status
 abbrev pub MeansStatus : List ℕ → List (List ℕ) → Files → Answer → Status → Type 0

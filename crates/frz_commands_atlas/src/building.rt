@@ -5,14 +5,13 @@ ghost use Rattle.std.specs.String.{string_bytes};
 ghost use Rattle.frz_store.specs.Told.{SourceTold, store_of, sink_of};
 ghost use Rattle.frz_answer.specs.World.{world};
 ghost use Rattle.frz_answer.specs.Ends.{Ran};
+ghost use Rattle.frz_atlas_prelude.specs.Names.{has_twice as is_twice};
+ghost use Rattle.frz_atlas_prelude.specs.declared.names.TheConstants.{MOST_BACKS};
 ghost use Rattle.frz_commands_atlas.specs.Building.{building_at, build_words};
-ghost use Rattle.frz_commands_atlas.specs.Names.{has_twice as is_twice};
-ghost use Rattle.frz_commands_atlas.specs.declared.names.TheConstants.{MOST_BACKS};
 
-use crate::ending::end_at;
-use crate::names::{build_names, has_twice};
 use frz_answer::{End, Refusal, refuse};
 use frz_atlas::build_atlas;
+use frz_atlas_prelude::{build_names, end_at, has_twice};
 use frz_prelude::{Reply, read_rules_text, tell};
 use frz_steps::Steps;
 use frz_store::{Sink, Store};

@@ -5,15 +5,14 @@ ghost use Rattle.std.specs.String.{string_bytes};
 ghost use Rattle.frz_store.specs.Told.{SourceTold, store_of, sink_of};
 ghost use Rattle.frz_answer.specs.World.{world};
 ghost use Rattle.frz_answer.specs.Ends.{Ran};
+ghost use Rattle.frz_atlas_prelude.specs.Names.{has_twice as is_twice};
+ghost use Rattle.frz_atlas_prelude.specs.declared.names.TheConstants.{MOST_BACKS};
 ghost use Rattle.frz_commands_atlas.specs.CheckMeans.{checking_at, check_words};
-ghost use Rattle.frz_commands_atlas.specs.Names.{has_twice as is_twice};
-ghost use Rattle.frz_commands_atlas.specs.declared.names.TheConstants.{MOST_BACKS};
 
-use crate::ending::end_at;
-use crate::names::different_names;
 use crate::verdict_lines::{status_of, write_verdict};
 use frz_answer::{End, refuse, said};
 use frz_atlas::check_atlas;
+use frz_atlas_prelude::{different_names, end_at};
 use frz_steps::Steps;
 use frz_store::{Sink, Store};
 use std::alloc::Global;

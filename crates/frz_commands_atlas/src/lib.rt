@@ -2,12 +2,9 @@
 //! `report` and `size`.
 #![tactic(auto)]
 
-mod back_lines;
 mod building;
 mod checking;
 mod each;
-mod ending;
-mod names;
 mod ranking;
 mod reporting;
 mod row_lines;

@@ -10,14 +10,13 @@ ghost use Rattle.frz_backs.specs.Values.{atlas_value};
 ghost use Rattle.frz_report.specs.Reports.{WritesReport};
 ghost use Rattle.frz_answer.specs.World.{world};
 ghost use Rattle.frz_answer.specs.Ends.{Ran};
-ghost use Rattle.frz_commands_atlas.specs.Names.{has_twice as is_twice};
+ghost use Rattle.frz_atlas_prelude.specs.Names.{has_twice as is_twice};
+ghost use Rattle.frz_atlas_prelude.specs.declared.names.TheConstants.{MOST_BACKS};
 ghost use Rattle.frz_commands_atlas.specs.Reporting.{reporting_at, report_words};
-ghost use Rattle.frz_commands_atlas.specs.declared.names.TheConstants.{MOST_BACKS};
 
-use crate::ending::end_at;
-use crate::names::different_names;
 use frz_answer::{End, refuse};
 use frz_atlas::{LoadedAtlas, load_atlas};
+use frz_atlas_prelude::{different_names, end_at};
 use frz_backs::AtlasBook;
 use frz_game::{Game, Pair};
 use frz_report::{ReportFault, Totals, end_of, write_report};

@@ -6,11 +6,12 @@ use Rattle.frz_board.specs.Boards.{Board}
 use Rattle.frz_index.proofs.Lemmas.{Num_below}
 use Rattle.frz_sets.specs.Sets.{size_of}
 use Rattle.frz_chain.specs.declared.back.BackTable.{BackTable}
+use Rattle.frz_backs.specs.Loaded.{link_loaded}
 use Rattle.frz_ways.specs.declared.session_end.PlayFault.{PlayFault}
 use Rattle.frz_ways.specs.declared.way_end.Finish.{Finish}
 use Rattle.frz_journeys.specs.declared.onward.Entry.{Entry}
 use Rattle.frz_journeys.specs.Onward.{Finds, GoesOnward, IsEntry, left_to}
-use Rattle.frz_journeys.specs.Tables.{link_loaded, next_of}
+use Rattle.frz_journeys.specs.Tables.{next_of}
 
 found_by : (before : List BackTable) (table : BackTable) (o : Option Board) (entry : Entry)
     → MatchOption o (◌≡◌ {A = Option Entry} (Some entry) None)

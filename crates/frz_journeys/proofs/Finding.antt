@@ -13,10 +13,10 @@ use Rattle.frz_table.specs.declared.kind.FileKind.{FileKind}
 use Rattle.frz_table.specs.declared.kind.FileKind.TheVariants.{Plain, Chained, Atlas}
 use Rattle.frz_chain.specs.declared.back.BackTable.{BackTable}
 use Rattle.frz_backs.specs.Links.{Link}
-use Rattle.frz_atlas.specs.Opening.{leans_as}
+use Rattle.frz_backs.specs.Loaded.{leans_as, link_loaded}
 use Rattle.frz_journeys.specs.declared.onward.Entry.{Entry}
 use Rattle.frz_journeys.specs.Onward.{Finds}
-use Rattle.frz_journeys.specs.Tables.{first_from, leant_on, link_loaded, where_unknown}
+use Rattle.frz_journeys.specs.Tables.{first_from, leant_on, where_unknown}
 
 -- the table in front holds the position, or the rest is looked at
 front_holds : (place : ℕ) (table : Link) (tables : List Link) (q : Board)

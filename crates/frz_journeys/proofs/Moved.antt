@@ -16,8 +16,7 @@ use Rattle.frz_chain.specs.FileOn.{loaded_back}
 use Rattle.frz_chain.specs.declared.back.BackTable.{BackTable}
 use Rattle.frz_backs.specs.Links.{backs_of, value_over}
 use Rattle.frz_backs.specs.Values.{atlas_value}
-use Rattle.frz_atlas.specs.Opening.{leans_as}
-use Rattle.frz_journeys.specs.Tables.{link_loaded}
+use Rattle.frz_backs.specs.Loaded.{leans_as, link_loaded}
 
 pub backs_loaded : (tables : List BackTable)
     → backs_of (map link_loaded tables) ≡ map loaded_back tables

@@ -11,6 +11,7 @@ use Rattle.frz_arena.specs.declared.arm.Next.TheVariants.{Inside}
 use Rattle.frz_index.specs.Members.{HasNumber}
 use Rattle.frz_backs.specs.Links.{Link, backs_of, value_over}
 use Rattle.frz_chain.specs.declared.back.BackTable.{BackTable}
+use Rattle.frz_backs.specs.Loaded.{link_loaded}
 use Rattle.frz_ways.specs.declared.end.LineFault.TheVariants as faults
 use Rattle.frz_ways.specs.declared.hearing.Reader.{Reader}
 use Rattle.frz_ways.specs.declared.opponent.Opponent.{Opponent}
@@ -38,7 +39,7 @@ use Rattle.frz_journeys.specs.Journeys.{Stage, IsJourney, IsStage, onward}
 use Rattle.frz_journeys.specs.JourneyTexts.{journey_text, place_line}
 use Rattle.frz_journeys.specs.Onward.{Finds, GoesOnward, left_to}
 use Rattle.frz_journeys.specs.Playing.{JourneyPlayed, PlaysJourney, numbers_of, turns_in}
-use Rattle.frz_journeys.specs.Tables.{arena_over, codes_of, link_loaded, next_of}
+use Rattle.frz_journeys.specs.Tables.{arena_over, codes_of, next_of}
 use Rattle.frz_journeys.proofs.Finished.{IsNoExit, end_here, exit_before, finishes_alone, finishes_later, first_there, input_short, later_there, no_table}
 use Rattle.frz_journeys.proofs.Fronts.{Follows, later_front}
 use Rattle.frz_journeys.proofs.Leaving.{AreGames, left_behind}

@@ -10,6 +10,7 @@ use Rattle.frz_answer.proofs.Lemmas.{lines_behind}
 use Rattle.frz_index.specs.Members.{HasNumber}
 use Rattle.frz_chain.specs.declared.back.BackTable.{BackTable}
 use Rattle.frz_backs.specs.Links.{Link, backs_of, value_over}
+use Rattle.frz_backs.specs.Loaded.{link_loaded}
 use Rattle.frz_ways.specs.declared.end.LineFault.TheVariants as faults
 use Rattle.frz_ways.specs.declared.hearing.Reader.{Reader}
 use Rattle.frz_ways.specs.declared.opponent.Opponent.{Opponent}
@@ -30,7 +31,7 @@ use Rattle.frz_journeys.specs.declared.place.Place.TheVariants.{Behind}
 use Rattle.frz_journeys.specs.JourneyTexts.{place_line}
 use Rattle.frz_journeys.specs.Onward.{GoesOnward}
 use Rattle.frz_journeys.specs.Playing.{PlaysJourney}
-use Rattle.frz_journeys.specs.Tables.{arena_over, codes_of, link_loaded}
+use Rattle.frz_journeys.specs.Tables.{arena_over, codes_of}
 use Rattle.frz_journeys.proofs.Leaving.{AreGames}
 use Rattle.frz_journeys.proofs.Played.{ended_here, went_on}
 use Rattle.frz_journeys.proofs.Unwritten.{PlayedBehind, line_lines}

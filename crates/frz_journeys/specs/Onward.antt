@@ -9,11 +9,12 @@ use Rattle.frz_index.specs.Membership.{position_at}
 use Rattle.frz_sets.specs.Views.{GroupLine}
 use Rattle.frz_chain.specs.declared.back.BackTable.{BackTable}
 use Rattle.frz_backs.specs.Links.{Link}
+use Rattle.frz_backs.specs.Loaded.{link_loaded}
 use Rattle.frz_ways.specs.declared.session_end.PlayFault.{PlayFault}
 use Rattle.frz_ways.specs.declared.way_end.Finish.{Finish}
 use Rattle.frz_ways.specs.declared.way_end.Finish.TheVariants.{Left}
 use Rattle.frz_journeys.specs.declared.onward.Entry.{Entry}
-use Rattle.frz_journeys.specs.Tables.{link_loaded, next_of}
+use Rattle.frz_journeys.specs.Tables.{next_of}
 
 -- the number has a position, and the move is legal there
 pub record CanMove (groups : List GroupLine) (number : ℕ) (move : Step) : Type 0 where

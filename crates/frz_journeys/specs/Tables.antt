@@ -10,18 +10,7 @@ use Rattle.frz_exits.specs.Books.{value_by}
 use Rattle.frz_graph.specs.EntryCodes.{of_side}
 use Rattle.frz_game.specs.Games.{graph_by}
 use Rattle.frz_game.specs.Numbers.{is_member}
-use Rattle.frz_chain.specs.FileOn.{loaded_back}
-use Rattle.frz_chain.specs.declared.back.BackTable.{BackTable}
 use Rattle.frz_backs.specs.Links.{Link, backs_of, value_over}
-use Rattle.frz_atlas.specs.Opening.{leans_as}
-
--- a loaded table, which leans on those before it where its file is of that kind
-abbrev pub link_loaded : BackTable → Link
-link_loaded back = record {
-  rules = back.table.rules;
-  leans = leans_as back.table.kind;
-  back = loaded_back back;
-}
 
 -- the tables on which a table leans: all before it, or none
 abbrev pub leant_on : Bool → List Link → List Link

@@ -6,6 +6,7 @@ ghost use Rattle.frz_index.specs.Members.{HasNumber, Member};
 ghost use Rattle.frz_store.specs.Told.{source_of, sink_of};
 ghost use Rattle.frz_answer.specs.Answers.{IsLines};
 ghost use Rattle.frz_table.specs.Tables.{table_size};
+ghost use Rattle.frz_backs.specs.Loaded.{link_loaded};
 ghost use Rattle.frz_ways.specs.declared.end.LineFault.TheVariants as faults;
 ghost use Rattle.frz_ways.specs.declared.opponent.Opponent.TheVariants as opponents;
 ghost use Rattle.frz_ways.specs.declared.session_end.PlayFault.TheVariants.{Line};
@@ -14,7 +15,6 @@ ghost use Rattle.frz_ways.specs.SessionFaults.{WroteBy, InputCause, MayHold, Too
 ghost use Rattle.frz_ways.specs.Hearing.{HasEnded, StaysEnded};
 ghost use Rattle.frz_ways.specs.PlayLoaded.{IsSettled};
 ghost use Rattle.frz_ways.specs.WayEnds.{IsAnswerOf, ended};
-ghost use Rattle.frz_journeys.specs.Tables.{link_loaded};
 ghost use Rattle.frz_journeys.specs.JourneyTexts.{IsSmall};
 ghost use Rattle.frz_journeys.specs.Playing.{PlaysJourney, TellsJourney};
 

@@ -1,8 +1,8 @@
 //! Where a way that left the set of its table goes on.
 ghost use Rattle.std.specs.Prelude.{◌≡◌, map, Ok, Some};
 ghost use Rattle.frz_fide.specs.Valid.{IsValid};
-ghost use Rattle.frz_atlas.specs.Opening.{leans_as};
-ghost use Rattle.frz_journeys.specs.Tables.{link_loaded, first_from, leant_on, next_of};
+ghost use Rattle.frz_backs.specs.Loaded.{leans_as, link_loaded};
+ghost use Rattle.frz_journeys.specs.Tables.{first_from, leant_on, next_of};
 ghost use Rattle.frz_journeys.specs.Onward.{CanMove, Finds, GoesOnward, LeftLegally, behind};
 
 use frz_bits::Bitboards;

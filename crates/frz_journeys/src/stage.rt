@@ -4,13 +4,14 @@ ghost use Rattle.frz_store.specs.Told.{source_of, sink_of};
 ghost use Rattle.frz_answer.specs.Answers.{IsLines};
 ghost use Rattle.frz_game.specs.Games.{graph_by};
 ghost use Rattle.frz_table.specs.Tables.{table_size};
+ghost use Rattle.frz_backs.specs.Loaded.{link_loaded};
 ghost use Rattle.frz_ways.specs.declared.opponent.Opponent.TheVariants as opponents;
 ghost use Rattle.frz_ways.specs.declared.session_end.TheConstants.{MOST_LINES};
 ghost use Rattle.frz_ways.specs.SessionFaults.{WroteBy, InputCause, TookBytes};
 ghost use Rattle.frz_ways.specs.Hearing.{HasEnded, StaysEnded};
 ghost use Rattle.frz_ways.specs.PlayLoaded.{IsSettled, PlaysLoaded};
 ghost use Rattle.frz_ways.specs.WayEnds.{IsFinishOf};
-ghost use Rattle.frz_journeys.specs.Tables.{arena_over, codes_of, link_loaded};
+ghost use Rattle.frz_journeys.specs.Tables.{arena_over, codes_of};
 ghost use Rattle.frz_journeys.specs.JourneyTexts.{IsSmall, place_line};
 ghost use Rattle.frz_journeys.specs.Onward.{LeftLegally};
 

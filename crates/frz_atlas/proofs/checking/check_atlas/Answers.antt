@@ -13,7 +13,10 @@ use Rattle.frz_check.specs.Kept.{ChecksTable}
 use Rattle.frz_chain.specs.Books.{Back}
 use Rattle.frz_chain.specs.FileOn.{loaded_back}
 use Rattle.frz_chain.specs.declared.back.BackTable.{BackTable}
+use Rattle.frz_backs.specs.Links.{backs_of}
+use Rattle.frz_backs.specs.Loaded.{link_loaded}
 use Rattle.frz_backs.specs.Values.{atlas_value}
+use Rattle.frz_backs.proofs.Lemmas.{loaded_backs}
 use Rattle.frz_atlas.specs.Checking.{RefusesAtlas}
 use Rattle.frz_atlas.specs.declared.checking.Checked.{Checked}
 use Rattle.frz_atlas.specs.declared.fault.AtlasFault.{AtlasFault}
@@ -63,7 +66,7 @@ returns-in_err-sizes-clause-refused g c =
     (RefusesAtlas table behind old new c.args.steps.now c.open_behind.new.steps))
     (sym (p.1 ∙ ap err p.2))
     (not_loaded c.in-Ok.opened table behind old mid c.args.steps.now e.may_open
-    e.quiet.unwritten.files e.asked e.calls (map loaded_back c.in_ok-backs.backs.items) new new
+    e.quiet.unwritten.files e.asked e.calls (map link_loaded c.in_ok-backs.backs.items) new new
     c.open_behind.new.steps c.open_behind.new.steps c.in_ok-backs.ensures.opened
     (omega arith) (omega arith) (omega arith) NoMemory tt)
 
@@ -71,7 +74,7 @@ pub returns-in-Ok-check_kept-clause-verdict : goal.returns-in-Ok-check_kept-clau
 returns-in-Ok-check_kept-clause-verdict g c =
     let table = c.in-Ok.opened in
     let backs = c.in_ok-backs.backs.items in
-    let loaded = map loaded_back backs in
+    let links = map link_loaded backs in
     let old = store_of g.S.Store c.args.store.now in
     let mid = store_of g.S.Store c.open_kind.new.store in
     let then = store_of g.S.Store c.open_behind.new.store in
@@ -81,18 +84,20 @@ returns-in-Ok-check_kept-clause-verdict g c =
     let k = c.in-Ok-check_kept.ensures in
     let size : c.size.result ≡ table_size table = search rules in
     let of_back : Back → ℕ = λ back. size_of back.groups in
-    let sizes : c.in_ok-sizes.sizes.items ≡ map of_back loaded =
+    let sizes : c.in_ok-sizes.sizes.items ≡ map of_back (backs_of links) =
     c.in_ok-sizes.ensures
     ∙ (ap (map (λ (back : BackTable). size_of back.table.rules.groups)) c.deref.ensures.value
-    ∙ sym (map-map of_back loaded_back backs)) in
+    ∙ (sym (map-map of_back loaded_back backs)
+    ∙ ap (map of_back) (sym (loaded_backs backs)))) in
     checked table c.args.table.now (map string_bytes c.args.behind.now) old mid c.args.steps.now
-    e.may_open e.quiet.unwritten.files e.asked e.calls loaded
+    e.may_open e.quiet.unwritten.files e.asked e.calls links
     then new c.open_behind.new.steps c.check_kept.new.steps b.opened k.asked k.calls k.steps
     b.quiet.unwritten.files e.kind e.name _ size sizes
     (subst (λ (value : Board → Value). ChecksTable (g.S.Store.files c.open_behind.new.store) table
     value c.in-Ok-check_kept.verdict)
     (ap₂ atlas_value (c.new-book.ensures.rules ∙ c.rules.ensures.rules)
-    (ap (map loaded_back) (c.new-book.ensures.backs ∙ c.deref-2.ensures.value))) k.verdict)
+    (ap (map loaded_back) (c.new-book.ensures.backs ∙ c.deref-2.ensures.value)
+    ∙ sym (loaded_backs backs))) k.verdict)
 
 pub returns-clause-refused : goal.returns-clause-refused
 returns-clause-refused g c =
@@ -108,6 +113,6 @@ returns-clause-refused g c =
     c.check_kept.new.steps f)
     (sym c.of_table-in-Err-check_kept.ensures)
     (not_loaded c.in-Ok.opened name behind old mid c.args.steps.now e.may_open
-    e.quiet.unwritten.files e.asked e.calls (map loaded_back c.in_ok-backs.backs.items)
+    e.quiet.unwritten.files e.asked e.calls (map link_loaded c.in_ok-backs.backs.items)
     then new c.open_behind.new.steps c.check_kept.new.steps c.in_ok-backs.ensures.opened k.asked
     k.calls k.steps c.in-Err-check_kept.fault k.outside)

@@ -3,9 +3,9 @@ use Rattle.frz_store.specs.Told.{store_of}
 use Rattle.frz_table.specs.Tables.{Table}
 use Rattle.frz_table.proofs.Lemmas.{fine_after}
 use Rattle.frz_check.specs.declared.loading.CheckedCodes.{CheckedCodes}
-use Rattle.frz_chain.specs.Books.{back_with}
 use Rattle.frz_chain.specs.FileOn.{loaded_back}
 use Rattle.frz_chain.specs.declared.back.BackTable.{BackTable}
+use Rattle.frz_atlas.specs.Opening.{link_with}
 use Rattle.frz_atlas.proofs.Causes.{given_cause, one_cause, one_later}
 use Rattle.frz_atlas.proofs.Opened.{JudgedOver, back_given, back_wrong, judged_over, not_loaded, not_opened}
 use Rattle.frz_atlas.proofs.opening.open_over.Given.{Over}
@@ -15,7 +15,7 @@ use Rattle.frz_atlas.proofs.opening.open_over.Goals.{After-exact_back}
 -- the verdict on what the name may hold
 judged : (g : Over) (c : After-exact_back g)
     → JudgedOver (map loaded_back c.args.before.now) c.args.name.now
-    (back_with c.in-Ok.table.rules.groups c.in-Ok-load_over.loaded.white.items
+    (link_with c.in-Ok.table c.in-Ok-load_over.loaded.white.items
     c.in-Ok-load_over.loaded.black.items)
     c.in-Ok-load_over.loaded.verdict (store_of g.S.Store c.args.store.now)
     (store_of g.S.Store c.load_over.new.store) c.args.steps.now c.load_over.new.steps

@@ -3,7 +3,7 @@ use Rattle.std.specs.String.{string_bytes}
 use Rattle.std.proofs.Common.{◌∙◌, sym, ap, subst, Result, Err, IfErr}
 use Rattle.std.proofs.lemmas.Result.{err_from_is_err_and}
 use Rattle.frz_store.specs.Told.{store_of}
-use Rattle.frz_chain.specs.FileOn.{loaded_back}
+use Rattle.frz_backs.specs.Loaded.{link_loaded}
 use Rattle.frz_atlas.specs.Reading.{RefusesToRead}
 use Rattle.frz_atlas.specs.declared.fault.AtlasFault.{AtlasFault}
 use Rattle.frz_atlas.specs.declared.reading.LoadedAtlas.{LoadedAtlas}
@@ -58,5 +58,5 @@ returns-in-Err-load-clause-refused g c =
     subst (λ (f : AtlasFault). RefusesToRead table behind old new f)
     (sym c.of_table-in-Err-load.ensures)
     (not_loaded c.in-Ok.opened table behind old mid e.may_open e.quiet.unwritten.files e.asked
-    e.calls (map loaded_back c.in_ok-backs.backs.items) then new c.in-Err-load.fault
+    e.calls (map link_loaded c.in_ok-backs.backs.items) then new c.in-Err-load.fault
     c.in_ok-backs.ensures.loaded k.asked k.calls k.outside)

@@ -5,9 +5,9 @@ use Rattle.frz_store.specs.Told.{store_of}
 use Rattle.frz_answer.specs.Jobs.{Job}
 use Rattle.frz_answer.specs.Words.{unless}
 use Rattle.frz_answer.proofs.Lemmas.{as_taken, as_unless}
+use Rattle.frz_atlas_prelude.specs.Names.{has_twice}
+use Rattle.frz_atlas_prelude.proofs.Lemmas.{as_all_named}
 use Rattle.frz_commands_atlas.specs.Building.{building_at}
-use Rattle.frz_commands_atlas.specs.Names.{has_twice}
-use Rattle.frz_commands_atlas.proofs.Taken.{as_all_named}
 use Rattle.frz_commands_atlas.proofs.building.run_build.Goals as goal
 
 abbrev by_words : List (List ℕ) → List ℕ × (List ℕ × List (List ℕ)) → Job

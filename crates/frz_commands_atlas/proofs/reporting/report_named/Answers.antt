@@ -1,5 +1,6 @@
 use Rattle.std.proofs.Common.{arith}
-use Rattle.frz_commands_atlas.proofs.Reported.{refused_so, small_place, told_so}
+use Rattle.frz_atlas_prelude.proofs.Lemmas.{small_unread}
+use Rattle.frz_commands_atlas.proofs.Reported.{refused_so, told_so}
 use Rattle.frz_commands_atlas.proofs.reporting.report_named.Goals as goal
 
 pub returns-in-Ok : goal.returns-in-Ok
@@ -12,7 +13,7 @@ returns-in-Ok g c = λ input.
 
 pub end_at-requires : goal.end_at-requires
 end_at-requires g c =
-    small_place c.args.table.now _ _ _ c.in-Err.fault c.requires.few c.in-Err.ensures.refused
+    small_unread _ c.requires.few _ _ c.in-Err.fault c.args.table.now c.in-Err.ensures.refused
 
 pub returns-in-Err : goal.returns-in-Err
 returns-in-Err g c = λ input.

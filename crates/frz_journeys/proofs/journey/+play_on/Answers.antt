@@ -4,7 +4,8 @@ use Rattle.std.specs.Prelude.{slice_get, Some}
 use Rattle.std.proofs.lemmas.Option.{slice_get_read}
 use Rattle.frz_store.specs.Told.{source_of, sink_of}
 use Rattle.frz_backs.specs.Links.{backs_of, value_over}
-use Rattle.frz_journeys.specs.Tables.{codes_of, link_loaded}
+use Rattle.frz_backs.specs.Loaded.{link_loaded}
+use Rattle.frz_journeys.specs.Tables.{codes_of}
 use Rattle.frz_journeys.proofs.Entering.{entry_within, number_within}
 use Rattle.frz_journeys.proofs.ToldOn.{told_here, told_on}
 use Rattle.frz_journeys.proofs.journey.+play_on.Goals as goal

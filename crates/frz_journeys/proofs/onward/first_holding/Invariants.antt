@@ -1,5 +1,6 @@
 use Rattle.std.proofs.Common.{◌≡◌, map}
-use Rattle.frz_journeys.specs.Tables.{first_from, link_loaded}
+use Rattle.frz_backs.specs.Loaded.{link_loaded}
+use Rattle.frz_journeys.specs.Tables.{first_from}
 use Rattle.frz_journeys.proofs.Finding.{first_loaded}
 use Rattle.frz_journeys.proofs.onward.first_holding.Given as goal
 

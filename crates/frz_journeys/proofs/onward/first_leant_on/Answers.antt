@@ -1,6 +1,6 @@
 use Rattle.std.proofs.Common.{◌∙◌, ap, map}
-use Rattle.frz_atlas.specs.Opening.{leans_as}
-use Rattle.frz_journeys.specs.Tables.{first_from, leant_on, link_loaded}
+use Rattle.frz_backs.specs.Loaded.{leans_as, link_loaded}
+use Rattle.frz_journeys.specs.Tables.{first_from, leant_on}
 use Rattle.frz_journeys.proofs.Finding.{finds_same, leans_on_none}
 use Rattle.frz_journeys.proofs.onward.first_leant_on.Goals as goal
 

@@ -1,7 +1,8 @@
 use Rattle.std.proofs.Common.{◌≡◌, ◌∙◌, ap, map}
 use Rattle.frz_sets.specs.declared.exit.Value.TheVariants.{Unknown}
 use Rattle.frz_exits.specs.Books.{value_by}
-use Rattle.frz_journeys.specs.Tables.{first_from, leant_on, link_loaded, where_unknown}
+use Rattle.frz_backs.specs.Loaded.{link_loaded}
+use Rattle.frz_journeys.specs.Tables.{first_from, leant_on, where_unknown}
 use Rattle.frz_journeys.proofs.Finding.{finds_same, lines_first}
 use Rattle.frz_journeys.proofs.onward.next_table.Goals as goal
 

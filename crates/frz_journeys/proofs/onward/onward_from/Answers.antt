@@ -1,9 +1,10 @@
 use Rattle.std.proofs.Common.{◌≡◌, map, Ok, Option, subst, sym}
 use Rattle.std.specs.Prelude.{MatchOption, None}
 use Rattle.frz_board.specs.Boards.{Board}
+use Rattle.frz_backs.specs.Loaded.{link_loaded}
 use Rattle.frz_ways.specs.declared.way_end.Finish.{Finish}
 use Rattle.frz_journeys.specs.Onward.{Finds, GoesOnward, LeftLegally}
-use Rattle.frz_journeys.specs.Tables.{link_loaded, next_of}
+use Rattle.frz_journeys.specs.Tables.{next_of}
 use Rattle.frz_journeys.proofs.onward.onward_from.Goals as goal
 
 pub position_behind-requires : goal.position_behind-requires

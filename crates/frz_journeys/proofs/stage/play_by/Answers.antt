@@ -5,9 +5,10 @@ use Rattle.frz_sets.specs.Views.{RuleLines}
 use Rattle.frz_game.specs.Games.{game_of}
 use Rattle.frz_game.specs.Numbers.{numbers_by}
 use Rattle.frz_game.proofs.Lemmas.{finite}
+use Rattle.frz_backs.specs.Loaded.{link_loaded}
 use Rattle.frz_ways.specs.PlayLoaded.{PlaysLoaded}
 use Rattle.frz_ways.proofs.Lemmas.{turn_after}
-use Rattle.frz_journeys.specs.Tables.{codes_of, link_loaded}
+use Rattle.frz_journeys.specs.Tables.{codes_of}
 use Rattle.frz_journeys.proofs.Leaving.{left_legally}
 use Rattle.frz_journeys.proofs.Moved.{moved_lent}
 use Rattle.frz_journeys.proofs.stage.play_by.Goals as goal

@@ -1,12 +1,13 @@
 use Rattle.std.proofs.Common.{map, refl}
 use Rattle.frz_store.specs.Told.{source_of, sink_of}
+use Rattle.frz_backs.specs.Loaded.{link_loaded}
 use Rattle.frz_ways.specs.PlayLoaded.{IsSettled}
 use Rattle.frz_ways.specs.SessionFaults.{InputCause}
 use Rattle.frz_ways.specs.WayEnds.{IsFinishOf}
 use Rattle.frz_ways.proofs.Lemmas.{wrote_after}
 use Rattle.frz_journeys.specs.JourneyTexts.{place_line}
 use Rattle.frz_journeys.specs.Onward.{LeftLegally}
-use Rattle.frz_journeys.specs.Tables.{arena_over, codes_of, link_loaded}
+use Rattle.frz_journeys.specs.Tables.{arena_over, codes_of}
 use Rattle.frz_journeys.proofs.Unwritten.{by_output, line_failed}
 use Rattle.frz_journeys.proofs.stage.play_stage.Goals as goal
 

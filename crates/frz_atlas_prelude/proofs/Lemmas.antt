@@ -1,0 +1,30 @@
+-- The lemmas that the crates above cite.
+pub use Rattle.frz_atlas_prelude.proofs.Ended.{AnswersAt, MayEndAt, ended_at}
+pub use Rattle.frz_atlas_prelude.proofs.HeldNames.{
+  HoldingAll,
+  as_many,
+  first_alone,
+  holding_all,
+  judged_exact,
+  may_hold_first,
+  may_hold_there,
+  not_contained,
+  place_below,
+  same_first,
+  same_rest,
+  without_second,
+}
+pub use Rattle.frz_atlas_prelude.proofs.HeldTable.{Holds, holds}
+pub use Rattle.frz_atlas_prelude.proofs.Refused.{back_said, not_both}
+pub use Rattle.frz_atlas_prelude.proofs.SmallPlaces.{place_refused, small_refused, small_unopened, small_unread}
+pub use Rattle.frz_atlas_prelude.proofs.TablesOnce.{
+  AllFound,
+  all_exact,
+  all_found,
+  never_refused,
+  one_place,
+  one_refused,
+  one_tables,
+  with_table,
+}
+pub use Rattle.frz_atlas_prelude.proofs.Taken.{as_all_named, as_file_named, as_named, ran_named, ran_refused}

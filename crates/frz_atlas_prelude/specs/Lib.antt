@@ -1,0 +1,7 @@
+pub mod Names
+pub mod BackLines
+pub mod Ending
+pub mod Tables
+pub mod Costs
+pub mod TableRefusals
+pub mod RulesRefusals

@@ -1,0 +1,12 @@
+//! What the commands on tables over several others share: the names that their words give, the
+//! lines that refuse one of the tables behind, and how a command ends at what is wrong with a file.
+#![tactic(auto)]
+
+mod back_lines;
+mod ending;
+mod names;
+
+pub use ending::end_at;
+pub use names::{
+    MOST_BACKS, build_names, different_names, has_twice, is_among, names_with_backs, table_names,
+};

@@ -1,0 +1,101 @@
+//! The names that the words of a command give: a file, and the tables behind it.
+ghost use Rattle.std.specs.Prelude.{◌≡◌, map, IfOk, IfErr};
+ghost use Rattle.std.specs.List.{list_any};
+ghost use Rattle.std.specs.Option.{option_map};
+ghost use Rattle.std.specs.Str.{bytes_eq};
+ghost use Rattle.std.specs.String.{string_bytes};
+ghost use Rattle.frz_atlas_prelude.specs.Names as names;
+ghost use Rattle.frz_atlas_prelude.specs.Names.{AreDifferent, DoNotName};
+ghost use Rattle.frz_atlas_prelude.specs.Names.{build_names_of, file_names_of, table_names_of};
+
+use frz_answer::Refusal;
+
+/// The most tables that may stand behind a table.
+pub const MOST_BACKS: usize = 16;
+
+/// The file's name, and the 0 to 16 names of the tables behind it; `None` for any other number.
+fn file_names(words: &[String]) -> Option<(&str, &[String])>
+    ensures { option_map (λ all. (all.0.now, map string_bytes all.1.now)) result
+        ≡ file_names_of (map string_bytes words.now) }
+{
+    match words {
+        [file, behind @ ..] if behind.len() <= MOST_BACKS => Some((file.as_str(), behind)),
+        _ => None,
+    }
+}
+
+/// The table's name, and the 1 to 16 names of the tables behind it; `None` for any other number.
+pub fn table_names(words: &[String]) -> Option<(&str, &[String])>
+    ensures { option_map (λ all. (all.0.now, map string_bytes all.1.now)) result
+        ≡ table_names_of (map string_bytes words.now) }
+{
+    match words {
+        [table, behind @ ..] if !behind.is_empty() && behind.len() <= MOST_BACKS => {
+            Some((table.as_str(), behind))
+        }
+        _ => None,
+    }
+}
+
+/// The rules file's name, the table's name, and the 1 to 16 names of the tables behind it; `None`
+/// for any other number.
+pub fn build_names(words: &[String]) -> Option<(&str, &str, &[String])>
+    ensures { option_map (λ all. (all.0.now, (all.1.now, map string_bytes all.2.now))) result
+        ≡ build_names_of (map string_bytes words.now) }
+{
+    match words {
+        [rules, rest @ ..] => match table_names(rest) {
+            Some((table, behind)) => Some((rules.as_str(), table, behind)),
+            None => None,
+        },
+        [] => None,
+    }
+}
+
+/// Is the name among these?
+pub fn is_among(name: &str, names: &[String]) -> bool
+    ensures { result ≡ list_any (λ other. bytes_eq other name.now) (map string_bytes names.now) }
+{
+    match names {
+        [] => false,
+        [other, rest @ ..] => other.as_str() == name || is_among(name, rest),
+    }
+}
+
+/// Does a name stand twice among these?
+pub fn has_twice(words: &[String]) -> bool
+    ensures { result ≡ names.has_twice (map string_bytes words.now) }
+{
+    match words {
+        [] => false,
+        [first, rest @ ..] => is_among(first.as_str(), rest) || has_twice(rest),
+    }
+}
+
+/// The table's name and the 1 to 16 names of the tables behind it, no two of which are the same; or
+/// why the words are refused.
+pub fn different_names(words: &[String]) -> Result<(&str, &[String]), Refusal>
+    ensures named { IfOk result (λ all. AreDifferent table_names_of (map string_bytes words.now)
+        all.0.now (map string_bytes all.1.now)) }
+    ensures refused { IfErr result (DoNotName table_names_of (map string_bytes words.now)) }
+{
+    match table_names(words) {
+        None => Err(Refusal::Count),
+        Some(_) if has_twice(words) => Err(Refusal::SameName),
+        Some(names) => Ok(names),
+    }
+}
+
+/// The file's name and the 0 to 16 names of the tables behind it, no two of which are the same; or
+/// why the words are refused.
+pub fn names_with_backs(words: &[String]) -> Result<(&str, &[String]), Refusal>
+    ensures named { IfOk result (λ all. AreDifferent file_names_of (map string_bytes words.now)
+        all.0.now (map string_bytes all.1.now)) }
+    ensures refused { IfErr result (DoNotName file_names_of (map string_bytes words.now)) }
+{
+    match file_names(words) {
+        Some(names) if !has_twice(words) => Ok(names),
+        Some(_) => Err(Refusal::SameName),
+        None => Err(Refusal::Count),
+    }
+}
