@@ -6,8 +6,13 @@ ghost use Rattle.atlas.specs.Commands.{job_of};
 
 pub mod calls;
 
+use frz_commands_journeys::laws::{one_line_answer, one_play_answer};
+
 /// For all words, the call has exactly one answer over any files and any input. Over files of
 /// bytes, that answer means what its command promises.
 pub fn one_answer()
     ensures { (words : List (List ℕ)) → IsLawful (job_of words) }
-{}
+{
+    one_line_answer();
+    one_play_answer();
+}

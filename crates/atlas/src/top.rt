@@ -10,6 +10,10 @@ use crate::verb::{Verb, read_command};
 use frz_answer::{End, Refusal, finish, refuse};
 use frz_commands_ask::query_kind;
 use frz_commands_atlas::{run_build, run_check, run_each, run_report, run_size};
+use frz_commands_journeys::laws::{one_line_answer, one_play_answer};
+use frz_commands_journeys::{run_line, run_play};
+use frz_commands_premises::run_premises;
+use frz_commands_why::run_why;
 use frz_prelude::tell;
 use frz_steps::Steps;
 use frz_store::{Sink, Source, Store};
@@ -39,6 +43,10 @@ fn run<S: Store, I: Source, O: Sink, L: Ledger>(
         Some((Verb::Check, rest)) => run_check(alloc, rest, store, out, steps),
         Some((Verb::Query, rest)) => tell(query_kind(alloc, FileKind::Atlas, rest, store), out),
         Some((Verb::Each, rest)) => run_each(alloc, rest, store, out, steps),
+        Some((Verb::Line, rest)) => run_line(alloc, rest, store, out, steps),
+        Some((Verb::Play, rest)) => run_play(alloc, rest, store, input, out, steps),
+        Some((Verb::Why, rest)) => run_why(alloc, rest, store, out, steps),
+        Some((Verb::Premises, rest)) => run_premises(alloc, rest, store, out, steps),
         Some((Verb::Report, rest)) => run_report(alloc, rest, store, out, steps),
         Some((Verb::Size, rest)) => run_size(alloc, rest, store, out),
         None => refuse(Refusal::NoCommand, out),
@@ -68,6 +76,8 @@ pub fn atlas<S: Store, I: Source, O: Sink, L: Ledger>(
     ensures input_unused { (job_of (map string_bytes words.now)).needs.input ≡ false
         → input.new ≡ input.old }
 {
+    one_line_answer();
+    one_play_answer();
     let end = run(alloc, words, store, input, out, steps);
     finish(end, out)
 }

@@ -31,6 +31,33 @@ returns-in-Some-Each-default-clause-ran g c =
     c.in-Some-Each-default.ensures)
     (c.run_each.ensures.ran (source_of g.I.Source c.args.input.now))
 
+pub returns-in-Some-Line-default-clause-ran :
+    goal.returns-in-Some-Line-default-clause-ran
+returns-in-Some-Line-default-clause-ran g c =
+    as_command _ _ _ _ _ (rw c.in-Some-Line-default.field-0-0-is at
+    c.in-Some-Line-default.ensures)
+    (c.run_line.ensures.ran (source_of g.I.Source c.args.input.now))
+
+pub returns-in-Some-Play-default-clause-ran :
+    goal.returns-in-Some-Play-default-clause-ran
+returns-in-Some-Play-default-clause-ran g c =
+    as_command _ _ _ _ _ (rw c.in-Some-Play-default.field-0-0-is at
+    c.in-Some-Play-default.ensures) c.run_play.ensures.ran
+
+pub returns-in-Some-Why-default-clause-ran :
+    goal.returns-in-Some-Why-default-clause-ran
+returns-in-Some-Why-default-clause-ran g c =
+    as_command _ _ _ _ _ (rw c.in-Some-Why-default.field-0-0-is at
+    c.in-Some-Why-default.ensures)
+    (c.run_why.ensures.ran (source_of g.I.Source c.args.input.now))
+
+pub returns-in-Some-Premises-default-clause-ran :
+    goal.returns-in-Some-Premises-default-clause-ran
+returns-in-Some-Premises-default-clause-ran g c =
+    as_command _ _ _ _ _ (rw c.in-Some-Premises-default.field-0-0-is at
+    c.in-Some-Premises-default.ensures)
+    (c.run_premises.ensures.ran (source_of g.I.Source c.args.input.now))
+
 pub returns-in-Some-Report-default-clause-ran :
     goal.returns-in-Some-Report-default-clause-ran
 returns-in-Some-Report-default-clause-ran g c =
