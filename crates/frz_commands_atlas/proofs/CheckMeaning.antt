@@ -33,6 +33,7 @@ use Rattle.frz_atlas.specs.declared.fault.BackFault.{BackFault}
 use Rattle.frz_atlas.specs.declared.fault.BackFault.TheVariants.{Refused, Wrong}
 use Rattle.frz_atlas.proofs.Lemmas.{judged_exact, links_backs}
 use Rattle.frz_atlas_prelude.specs.BackLines.{back_status}
+use Rattle.frz_atlas_prelude.specs.TableRefusals.{RefusesBehind}
 use Rattle.frz_atlas_prelude.proofs.Lemmas.{judged_over, never_refused}
 use Rattle.frz_commands_atlas.specs.AtlasHeadline.{AtlasHeadline}
 use Rattle.frz_commands_atlas.specs.Checking.{IsCheckedAt, IsJudgedAtlas, judged, no_back, no_table, verdict_line, verdict_status}

@@ -1,2 +1,9 @@
 -- The lemmas that the crates above use.
+pub use Rattle.frz_commands_line.proofs.Behind.{Beginning, cut_within}
+pub use Rattle.frz_commands_line.proofs.Counting.{no_left, no_right}
+pub use Rattle.frz_commands_line.proofs.KnownLine.{by_member, not_member}
 pub use Rattle.frz_commands_line.proofs.Later.{any_later}
+pub use Rattle.frz_commands_line.proofs.Lawful.{as_side, side_lawful}
+pub use Rattle.frz_commands_line.proofs.OutsideSet.{outside_ran}
+pub use Rattle.frz_commands_line.proofs.Stages.{is_part}
+pub use Rattle.frz_commands_line.proofs.Taken.{rest_after, rest_left}

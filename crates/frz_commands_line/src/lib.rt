@@ -7,4 +7,5 @@ mod play;
 mod side;
 
 pub use line::run_line;
-pub use play::run_play;
+pub use play::{end_of_session, run_play};
+pub use side::{read_side, refuse_side};

@@ -33,7 +33,7 @@ use std::sync::ledger::Ledger;
 
 /// Ends the command after a session. An end for which the session itself writes nothing is named
 /// here.
-fn end_of_session<O: Sink>(session: Result<SessionEnd, PlayFault>, out: &mut O) -> End
+pub fn end_of_session<O: Sink>(session: Result<SessionEnd, PlayFault>, out: &mut O) -> End
     ensures { EndsSession session result (sink_of O.Sink out.old) (sink_of O.Sink out.new) }
 {
     match session {

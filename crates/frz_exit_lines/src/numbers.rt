@@ -18,7 +18,7 @@ fn is_exit_line(line: &[u8]) -> bool
 
 /// The numbers of the exit lines of a rules text, in order; the first line of a text has number 1.
 /// The text need not be an accepted one: every line counts whose first word is `exit`.
-#[tactic(auto, using(crate::proofs::Numbering::numbering))]
+#[tactic(auto, using(crate::proofs::Numbering::numbering), unfolding(crate::specs::Numbers::exit_numbers_of))]
 pub fn exit_line_numbers(alloc: Global, text: &[u8]) -> Result<Vec<u32>, AllocError>
     requires { length text.now < 2 ^ 32 }
     ensures { IfOk result (λ numbers. numbers.items ≡ exit_numbers_of text.now) }

@@ -1,0 +1,3 @@
+pub mod Lemmas
+pub mod Numbering
+pub mod Saying

@@ -1,0 +1,10 @@
+pub mod LocalEntries
+pub mod FailingWays
+pub mod ReasonTexts
+pub mod TellingFailures
+pub mod Places
+pub mod Turns
+pub mod Denials
+pub mod TellingDenials
+pub mod FailuresTell
+pub mod FailingGames
