@@ -36,11 +36,11 @@ use Rattle.frz_atlas.proofs.Lemmas.{judged_exact, links_backs}
 use Rattle.frz_atlas_prelude.specs.BackLines.{back_status}
 use Rattle.frz_atlas_prelude.specs.TableRefusals.{RefusesBehind}
 use Rattle.frz_atlas_prelude.specs.Tables.{AreExactOver}
-use Rattle.frz_atlas_prelude.proofs.Lemmas.{never_refused, with_table}
+use Rattle.frz_atlas_prelude.proofs.Lemmas.{never_refused, not_both, with_table}
 use Rattle.frz_commands_atlas.specs.AtlasHeadline.{AtlasHeadline}
 use Rattle.frz_commands_atlas.specs.Checking.{IsCheckedAt, IsJudgedAtlas, judged, no_back, no_table, verdict_line, verdict_status}
 use Rattle.frz_commands_atlas.specs.CheckMeans.{HoldsAtlas, MeansCheck, MeansStatus, of_back, of_entry, of_fault, of_table}
-use Rattle.frz_commands_atlas.proofs.CheckOnce.{not_both, opens_judged, same_verdict}
+use Rattle.frz_commands_atlas.proofs.CheckOnce.{opens_judged, same_verdict}
 
 -- exact tables of files of bytes were judged so
 judged_over : (files : Files) → HoldsBytes files → (before : List Back) (names : List (List ℕ))
