@@ -6,7 +6,7 @@ use Rattle.frz_answer.proofs.Lemmas.{refused_lawful}
 use Rattle.frz_commands_atlas.proofs.Lemmas.{build_lawful, check_lawful, each_lawful, report_lawful, size_lawful}
 use Rattle.frz_commands_journeys.specs.Journeying.{line_words, play_words}
 use Rattle.frz_commands_premises.proofs.Lemmas.{premises_lawful}
-use Rattle.frz_commands_why.proofs.Lemmas.{why_lawful}
+use Rattle.frz_commands_why.specs.Asking.{why_words}
 use Rattle.atlas.specs.declared.verb.Verb.{Verb}
 use Rattle.atlas.specs.declared.verb.Verb.TheVariants.{Build, Check, Query, Each, Line, Play, Why, Premises, Report, Size}
 use Rattle.atlas.specs.Verbs.{command_of}
@@ -15,7 +15,8 @@ use Rattle.atlas.proofs.Queried.{query_lawful}
 
 -- the laws of other crates that this one rests on
 module _ (line_lawful : (words : List (List ℕ)) → IsLawful (line_words words))
-    (play_lawful : (words : List (List ℕ)) → IsLawful (play_words words)) where
+    (play_lawful : (words : List (List ℕ)) → IsLawful (play_words words))
+    (why_lawful : (words : List (List ℕ)) → IsLawful (why_words words)) where
   by_command : (command : Option (Verb × List (List ℕ))) → IsLawful (job_by command)
   by_command (Some (Build, words)) = build_lawful words
   by_command (Some (Check, words)) = check_lawful words

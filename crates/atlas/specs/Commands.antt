@@ -12,7 +12,7 @@ use Rattle.frz_commands_atlas.specs.Reporting.{report_words}
 use Rattle.frz_commands_atlas.specs.Sizing.{size_words}
 use Rattle.frz_commands_journeys.specs.Journeying.{line_words, play_words}
 use Rattle.frz_commands_premises.specs.Premising.{premises_words}
-use Rattle.frz_commands_why.specs.Explaining.{why_words}
+use Rattle.frz_commands_why.specs.Asking.{why_words}
 use Rattle.atlas.specs.declared.verb.Verb.{Verb}
 use Rattle.atlas.specs.declared.verb.Verb.TheVariants.{Build, Check, Query, Each, Line, Play, Why, Premises, Report, Size}
 use Rattle.atlas.specs.Verbs.{command_of}

@@ -13,6 +13,7 @@ use frz_commands_atlas::{run_build, run_check, run_each, run_report, run_size};
 use frz_commands_journeys::laws::{one_line_answer, one_play_answer};
 use frz_commands_journeys::{run_line, run_play};
 use frz_commands_premises::run_premises;
+use frz_commands_why::laws::why_lawful;
 use frz_commands_why::run_why;
 use frz_prelude::tell;
 use frz_steps::Steps;
@@ -78,6 +79,7 @@ pub fn atlas<S: Store, I: Source, O: Sink, L: Ledger>(
 {
     one_line_answer();
     one_play_answer();
+    why_lawful();
     let end = run(alloc, words, store, input, out, steps);
     finish(end, out)
 }

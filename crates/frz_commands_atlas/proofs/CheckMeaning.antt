@@ -34,11 +34,11 @@ use Rattle.frz_atlas.specs.declared.fault.BackFault.TheVariants.{Refused, Wrong}
 use Rattle.frz_atlas.proofs.Lemmas.{judged_exact, links_backs}
 use Rattle.frz_atlas_prelude.specs.BackLines.{back_status}
 use Rattle.frz_atlas_prelude.specs.TableRefusals.{RefusesBehind}
-use Rattle.frz_atlas_prelude.proofs.Lemmas.{judged_over, never_refused}
+use Rattle.frz_atlas_prelude.proofs.Lemmas.{judged_over, never_refused, not_both}
 use Rattle.frz_commands_atlas.specs.AtlasHeadline.{AtlasHeadline}
 use Rattle.frz_commands_atlas.specs.Checking.{IsCheckedAt, IsJudgedAtlas, judged, no_back, no_table, verdict_line, verdict_status}
 use Rattle.frz_commands_atlas.specs.CheckMeans.{HoldsAtlas, MeansCheck, MeansStatus, of_back, of_entry, of_fault, of_table}
-use Rattle.frz_commands_atlas.proofs.CheckOnce.{not_both, opens_judged, same_verdict}
+use Rattle.frz_commands_atlas.proofs.CheckOnce.{opens_judged, same_verdict}
 
 module _ (table : List ℕ) (behind : List (List ℕ)) (files : Files) (are : HoldsBytes files) where
   module _ (h : IsJudgedAtlas (files table) (map files behind) verdicts.Exact) where

@@ -1,14 +1,12 @@
 //! The text of each line, and of all lines.
-ghost use Rattle.std.specs.Prelude.{◌≡◌, ◌<◌, ◌++◌, All, codes, flat_map};
+ghost use Rattle.std.specs.Prelude.{◌++◌, All, codes, flat_map};
 ghost use Rattle.frz_fen.specs.Writing.{fen_text};
 ghost use Rattle.frz_fide.specs.Valid.{IsValid};
 ghost use Rattle.frz_store.specs.Told.{sink_of};
 ghost use Rattle.frz_answer.specs.Texts.{WroteText};
 ghost use Rattle.frz_premises.specs.Needs.{IsTellable};
 ghost use Rattle.frz_atlas_prelude.specs.declared.names.TheConstants.{MOST_BACKS};
-ghost use Rattle.frz_commands_premises.specs.LineTexts as texts;
 ghost use Rattle.frz_commands_premises.specs.LineTexts.{IsWritable, basis_words, line_text, strength_words};
-ghost use Rattle.frz_commands_premises.specs.declared.line.Line.TheVariants.{Back, Exit, Side as SideLine};
 
 use crate::line::Line;
 use frz_answer::{write_line, write_numbered, write_numbered_line, write_piece};
@@ -45,7 +43,7 @@ fn write_basis<O: Sink>(basis: Basis, out: &mut O) -> Result<(), Failed>
 
 fn write_exit<O: Sink>(number: u32, basis: Basis, out: &mut O) -> Result<(), Failed>
     requires { IsTellable MOST_BACKS basis }
-    ensures { WroteText (line_text (Exit number basis)) result
+    ensures { WroteText (line_text (Line.Exit number basis)) result
         (sink_of O.Sink out.old) (sink_of O.Sink out.new) }
 {
     write_numbered(b"line ", u64::from(number), out)?;
@@ -67,7 +65,7 @@ fn write_strength<O: Sink>(strength: Strength, out: &mut O) -> Result<(), Failed
 }
 
 fn write_side<O: Sink>(side: Colour, strength: Strength, out: &mut O) -> Result<(), Failed>
-    ensures { WroteText (line_text (SideLine side strength)) result
+    ensures { WroteText (line_text (Line.Side side strength)) result
         (sink_of O.Sink out.old) (sink_of O.Sink out.new) }
 {
     write_side_name(side, out)?;

@@ -1,12 +1,11 @@
 //! What the exit lines of a rules text, and of the tables behind it, rest on, line by line.
-ghost use Rattle.std.specs.Prelude.{◌≡◌, ◌≤◌, ◌+◌, ◌*◌, ◌++◌, ◌∷◌, [], length, map, sum_by, Ok, IfOk, OnOk};
+ghost use Rattle.std.specs.Prelude.{◌≡◌, ◌≤◌, ◌+◌, ◌*◌, ◌++◌, ◌∷◌, [], length, map, sum_by, IfOk, OnOk};
 ghost use Rattle.frz_sets.specs.Sets.{size_of};
 ghost use Rattle.frz_sets.specs.Sound.{IsSound};
 ghost use Rattle.frz_rules.specs.Text.{rules_of};
 ghost use Rattle.frz_backs.specs.Loaded.{link_loaded};
 ghost use Rattle.frz_commands_premises.specs.PremiseLines as words;
-ghost use Rattle.frz_commands_premises.specs.PremiseLines.{behind_lines, belief_among, last_lines, lines_by, strength_over, text_link_loaded, text_lines};
-ghost use Rattle.frz_commands_premises.specs.declared.line.Line.TheVariants.{Side as SideLine};
+ghost use Rattle.frz_commands_premises.specs.PremiseLines.{behind_lines, belief_among, lines_by, strength_over, text_link_loaded, text_lines};
 
 use crate::line::Line;
 use frz_backs::AtlasBook;
@@ -115,8 +114,8 @@ fn add_sides<L: Ledger>(
     requires fits { set.now ≡ rules.now.groups }
     ensures added { let links = map link_loaded backs.now in
         OnOk result (lines.new.items ≡ lines.old.items
-        ++ SideLine Colour.White (strength_over rules.now links believed Colour.White)
-        ∷ SideLine Colour.Black (strength_over rules.now links believed Colour.Black) ∷ []) }
+        ++ Line.Side Colour.White (strength_over rules.now links believed Colour.White)
+        ∷ Line.Side Colour.Black (strength_over rules.now links believed Colour.Black) ∷ []) }
     ensures steps { steps.new ≤ steps.old + size_of rules.now.groups }
     ensures later { steps.old ≤ steps.new }
 {

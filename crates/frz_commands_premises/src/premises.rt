@@ -1,6 +1,6 @@
 //! The command `premises RULES BACK ..`: what each exit line of a rules text, and of the tables of
 //! the names BACK behind it, rests on.
-ghost use Rattle.std.specs.Prelude.{◌≡◌, ◌≤◌, ◌∷◌, length, map, false, Ok, IfOk, IfErr};
+ghost use Rattle.std.specs.Prelude.{◌≡◌, ◌≤◌, ◌∷◌, length, map, false, IfOk, IfErr};
 ghost use Rattle.std.specs.String.{string_bytes};
 ghost use Rattle.frz_rules.specs.Text.{rules_of};
 ghost use Rattle.frz_store.specs.Told.{SourceTold, StoreQuiet, store_of, sink_of};
