@@ -1,0 +1,12 @@
+mod Texts
+mod Near
+mod Unstopped
+mod Heard
+mod Behind
+mod Loaded
+mod Played
+mod Unread
+mod Some
+mod Means
+mod Lawful
+mod Named
