@@ -13,6 +13,8 @@ mod ends;
 #[cfg(test)]
 mod handmade;
 #[cfg(test)]
+mod journeys;
+#[cfg(test)]
 mod lines;
 #[cfg(test)]
 mod outside;
