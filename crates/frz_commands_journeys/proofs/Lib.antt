@@ -5,8 +5,9 @@ mod Heard
 mod Behind
 mod Loaded
 mod Played
-mod Unread
 mod Some
+mod Arrived
+mod Unread
 mod Means
 mod Lawful
 mod Named
