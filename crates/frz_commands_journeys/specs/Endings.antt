@@ -23,6 +23,11 @@ abbrev pub IsNear : Place → Type 0
 IsNear Own = ⊤
 IsNear (Behind place) = place < MOST_BACKS
 
+-- a wrong code is one of such a table
+abbrev pub HasNearPlace : Place → Result WayEnd PlayFault → Type 0
+HasNearPlace place (Err (plays.Line (faults.Wrong wrong))) = IsNear place
+HasNearPlace place answer = ⊤
+
 -- the status, by what the journey answers
 abbrev pub answer_status : Result WayEnd PlayFault → Status
 answer_status (Ok end) = Success

@@ -2,7 +2,7 @@
 ghost use Rattle.frz_store.specs.Told.{sink_of};
 ghost use Rattle.frz_answer.specs.Ends.{Said};
 ghost use Rattle.frz_answer.specs.declared.status.Status.TheVariants.{Wrong as WrongStatus};
-ghost use Rattle.frz_commands_journeys.specs.Endings.{EndsJourney, IsNear, wrong_at};
+ghost use Rattle.frz_commands_journeys.specs.Endings.{EndsJourney, HasNearPlace, IsNear, wrong_at};
 
 use frz_answer::{End, Status, said};
 use frz_atlas::{AtlasFault, BackFault};
@@ -29,7 +29,7 @@ fn end_wrong<O: Sink>(place: Place, wrong: Wrong, out: &mut O) -> End
 /// Ends the command after a journey. An end for which the journey itself writes nothing is named
 /// here.
 pub fn end_of_journey<O: Sink>(arrival: Arrival, out: &mut O) -> End
-    requires { IsNear arrival.place }
+    requires { HasNearPlace arrival.place arrival.answer }
     ensures { EndsJourney arrival.place arrival.answer result
         (sink_of O.Sink out.old) (sink_of O.Sink out.new) }
 {

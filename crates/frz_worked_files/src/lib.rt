@@ -3,6 +3,8 @@
 #![tactic(auto)]
 
 #[cfg(test)]
+mod atlas_lines;
+#[cfg(test)]
 mod atlas_reports;
 #[cfg(test)]
 mod chains;

@@ -1,0 +1,13 @@
+mod Texts
+mod Near
+mod Unstopped
+mod Heard
+mod Behind
+mod Loaded
+mod Played
+mod Some
+mod Arrived
+mod Unread
+mod Means
+mod Lawful
+mod Named

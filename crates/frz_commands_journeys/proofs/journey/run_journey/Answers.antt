@@ -1,0 +1,25 @@
+use Rattle.std.specs.Prelude.{map}
+use Rattle.std.specs.String.{string_bytes}
+use Rattle.frz_store.specs.Told.{store_of, source_of}
+use Rattle.frz_commands_journeys.specs.Journeying.{input_with}
+use Rattle.frz_commands_journeys.specs.Words.{JourneyNames}
+use Rattle.frz_commands_journeys.proofs.Named.{few_named, ran_named, ran_refused}
+use Rattle.frz_commands_journeys.proofs.journey.run_journey.Goals as goal
+
+pub play_for-requires-clause-apart : goal.play_for-requires-clause-apart
+play_for-requires-clause-apart g c = c.in-Ok.ensures.named.apart
+
+pub play_for-requires-clause-few : goal.play_for-requires-clause-few
+play_for-requires-clause-few g c = few_named _ _ c.in-Ok.ensures.named.named
+
+pub returns-in-Ok-clause-ran : goal.returns-in-Ok-clause-ran
+returns-in-Ok-clause-ran g c = λ other.
+    ran_named c.args.opponent (map string_bytes c.args.words.now) _ _ _ _ c.in-Ok.ensures.named
+    (c.play_for.ensures.ran other)
+
+pub returns-in-Err-clause-ran : goal.returns-in-Err-clause-ran
+returns-in-Err-clause-ran g c = λ other.
+    ran_refused c.args.opponent (map string_bytes c.args.words.now) _ _ _ c.in-Err.why
+    c.in-Err.ensures.refused
+    (c.refuse.ensures (store_of g.S.Store c.args.store.now)
+    (input_with c.args.opponent (source_of g.I.Source c.args.input.now) other) _)

@@ -1,0 +1,232 @@
+//! Lines and sessions of the program `atlas`, over tables made by hand.
+ghost use Rattle.std.specs.Prelude.{◌≡◌, ◌<◌};
+
+use crate::stores::check_bytes;
+use frz_answer::{End, Fault, Status};
+use frz_commands_journeys::{run_line, run_play};
+use frz_steps::Steps;
+use frz_store::{Fail as Failing, FailOn, MemSink, MemSource, MemStore};
+use std::alloc::Global;
+use std::marker::Brand;
+use std::process::Abort;
+use std::sync::ledger::{Blank, Ledger};
+use std::test::Fail;
+use test_tables::{plain_file, rook, store_with, table_file};
+
+/// The rook's ending before the rook has captured a knight on h1: 4 numbers.
+const KNIGHT: &str = "freezer 1
+group white 1 K:b6
+group white 1 R:g1
+group black 1 K:a8,b8
+group black 1 N:h1
+";
+
+/// White wins if it is to move, by the capture alone: every other move leads to what no table tells.
+const KNIGHT_CODES: &[u32] = &[4, 4, 5, 5, 5, 5, 7, 7];
+
+/// White is to move, and the black king in the corner.
+const CORNER: &str = "k7/8/1K6/8/8/8/8/6Rn w - - 0 1";
+
+/// The codes of the rook's ending with one that is wrong, of the number to which a line comes.
+const WRONG_CODES: &[u32] = &[4, 6, 0, 0, 8, 5, 2, 2, 5, 5, 0, 0, 7, 7, 3, 3];
+
+/// A store whose calls fail so, with the knight's table and those of the rook.
+fn filled(alloc: Global, fails: &[Failing]) -> Result<MemStore, Fail> {
+    let knight = table_file(alloc, b"FREEZERA", KNIGHT.as_bytes(), 4, KNIGHT_CODES)?;
+    let rook = plain_file(alloc, rook::TEXT.as_bytes(), &rook::CODES)?;
+    let wrong = plain_file(alloc, rook::TEXT.as_bytes(), WRONG_CODES)?;
+    let files = [
+        ("knight", knight.as_slice()),
+        ("rook", &rook),
+        ("wrong", &wrong),
+        ("empty", b""),
+    ];
+    store_with(alloc, fails.to_vec(alloc)?, &files)
+}
+
+fn words_of(alloc: Global, line: &[&str]) -> Result<Vec<String>, Fail> {
+    let mut words = Vec::new(alloc);
+    for word in line {
+        words.push(String::from_str(alloc, word)?)?;
+    }
+    Ok(words)
+}
+
+/// How a line or, where there is an input, a session of these words ends.
+fn played<L: Ledger>(
+    alloc: Global,
+    blank: Blank,
+    line: &[&str],
+    input: Option<&mut MemSource>,
+    store: &mut MemStore,
+    out: &mut MemSink,
+) -> Result<End, Fail>
+    requires name { blank.name ≡ L.name }
+    requires parts { blank.parts ≡ L.parts }
+    requires some { 0 < blank.parts }
+{
+    let words = words_of(alloc, line)?;
+    let mut steps = Steps::<L>::new(blank);
+    match input {
+        Some(input) => Ok(run_play(alloc, &words, store, input, out, &mut steps)),
+        None => Ok(run_line(alloc, &words, store, out, &mut steps)),
+    }
+}
+
+/// The same with a count of steps that nobody reads.
+fn play(
+    alloc: Global,
+    line: &[&str],
+    input: Option<&mut MemSource>,
+    store: &mut MemStore,
+    out: &mut MemSink,
+) -> Result<End, Fail> {
+    let blank = Blank::new(1);
+    played::<Brand>(alloc, blank, line, input, store, out)
+}
+
+/// The words of a line, its end and its text.
+#[derive(Drop)]
+struct Row(&'static [&'static str], End, &'static [u8]);
+
+/// A line over this store ends so, with this text.
+fn check_row(rt: &impl Abort, alloc: Global, row: &Row, store: &mut MemStore) -> Result<(), Fail> {
+    let Row(line, wanted, text) = row;
+    let mut out = MemSink::new(alloc, 300, Vec::new(alloc)).or(Err("sink"))?;
+    let end = play(alloc, line, None, store, &mut out)?;
+    check_bytes(rt, out.taken(), text, "line");
+    assert_eq!(rt; end, *wanted);
+    Ok(())
+}
+
+const ROWS: &[Row] = &[
+    Row(
+        &["knight", CORNER, "white", "rook"],
+        End::Done(Status::Success),
+        b"white wins within 1\ng1h1\nexit white wins\n\
+            back 1\nwhite wins within 2\na8b8\nh1h8\nmate\n",
+    ),
+    Row(
+        &["knight", CORNER, "white", "wrong"],
+        End::Done(Status::Wrong),
+        b"white wins within 1\ng1h1\nexit white wins\nback 1\nwhite wins within 3\na8b8\n\
+            back 1: wrong white 1 kept 6 given 4\n",
+    ),
+    Row(
+        &["knight", CORNER, "black", "rook"],
+        End::Done(Status::Outside),
+        b"no bound\n",
+    ),
+    Row(
+        &["knight", rook::CORNER, "white", "rook"],
+        End::Done(Status::Outside),
+        b"outside\n",
+    ),
+    // The words are refused in turn: their number, the names, SIDE, FEN.
+    Row(&["knight", CORNER, "white"], End::Done(Status::Words), b"words: count\n"),
+    Row(
+        &["rook", "k7", "red", "knight", "rook"],
+        End::Done(Status::Words),
+        b"words: same name\n",
+    ),
+    Row(&["knight", "k7", "red", "rook"], End::Done(Status::Words), b"words: side\n"),
+    Row(&["none", "k7", "white", "rook"], End::Done(Status::Fen), b"fen: fields\n"),
+    // The table is opened before those behind it.
+    Row(&["rook", CORNER, "white", "empty"], End::Done(Status::Table), b"table: magic\n"),
+    Row(
+        &["knight", CORNER, "white", "rook", "empty"],
+        End::Done(Status::Table),
+        b"back 2: truncated 0 due 16\n",
+    ),
+    Row(&["knight", CORNER, "white", "none"], End::Done(Status::Missing), b"missing back 1\n"),
+];
+
+#[test]
+fn lines_over_tables_behind(rt: HostRuntime) -> Result<(), Fail> {
+    for row in ROWS {
+        let mut store = filled(rt.alloc(), &[])?;
+        check_row(&rt, rt.alloc(), row, &mut store)?;
+    }
+    Ok(())
+}
+
+/// Opening the table takes five calls; opening the one behind it as its own kind, seven, and loading
+/// the codes of both, two each. Where one fails, nothing is written.
+const CALLS: u64 = 16;
+
+#[test]
+fn each_call_of_a_line_may_fail_before_anything_is_written(rt: HostRuntime) -> Result<(), Fail> {
+    for nth in 1..CALLS + 1 {
+        let call = Failing {
+            on: FailOn::Call,
+            nth,
+            keep: 0,
+        };
+        let mut store = filled(rt.alloc(), &[call])?;
+        let row = Row(
+            &["knight", CORNER, "white", "rook"],
+            End::Stopped(Fault::Store),
+            b"",
+        );
+        check_row(&rt, rt.alloc(), &row, &mut store)?;
+    }
+    Ok(())
+}
+
+/// An input and its calls that fail; the end of White's session from the corner, what it writes
+/// behind the first bound of the table behind, and what it leaves of the input.
+#[derive(Drop)]
+struct Reply(&'static [u8], &'static [Failing], End, &'static [u8], &'static [u8]);
+
+const REPLIES: &[Reply] = &[
+    Reply(
+        b"a8a7\na8b8\nb8a8\n",
+        &[],
+        End::Done(Status::Success),
+        b"illegal\nreply a8b8\nmove h1h8\nmate\n",
+        b"b8a8\n",
+    ),
+    Reply(b"", &[], End::Done(Status::Success), b"input ended\n", b""),
+    Reply(
+        b"0123456789012345678901234567890123456789012345678901234567890123456789",
+        &[],
+        End::Done(Status::Limit),
+        b"limit line length\n",
+        b"56789",
+    ),
+    Reply(
+        b"a8b8\n",
+        &[Failing {
+            on: FailOn::Call,
+            nth: 2,
+            keep: 0,
+        }],
+        End::Stopped(Fault::Input),
+        b"",
+        b"8b8\n",
+    ),
+];
+
+/// A session against this input ends so.
+fn check_reply(rt: &impl Abort, alloc: Global, row: &Reply) -> Result<(), Fail> {
+    let Reply(bytes, fails, wanted, text, left) = row;
+    let mut store = filled(alloc, &[])?;
+    let mut input = MemSource::new(bytes.to_vec(alloc)?, fails.to_vec(alloc)?);
+    let mut out = MemSink::new(alloc, 300, Vec::new(alloc)).or(Err("sink"))?;
+    let line = ["knight", CORNER, "white", "rook"];
+    let end = play(alloc, &line, Some(&mut input), &mut store, &mut out)?;
+    let first = b"white wins within 1\nmove g1h1\nexit white wins\nback 1\nwhite wins within 2\n";
+    assert!(rt; out.taken().starts_with(first));
+    check_bytes(rt, &out.taken()[first.len()..], text, "play");
+    check_bytes(rt, input.left(), left, "left");
+    assert_eq!(rt; end, *wanted);
+    Ok(())
+}
+
+#[test]
+fn sessions_over_tables_behind(rt: HostRuntime) -> Result<(), Fail> {
+    for row in REPLIES {
+        check_reply(&rt, rt.alloc(), row)?;
+    }
+    Ok(())
+}
