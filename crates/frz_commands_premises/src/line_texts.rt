@@ -23,7 +23,7 @@ fn write_believed<O: Sink>(q: &Position, out: &mut O) -> Result<(), Failed>
         (sink_of O.Sink out.old) (sink_of O.Sink out.new) }
 {
     write_piece(b" believed ", out)?;
-    write_line(write_fen(q).as_bytes(), out)
+    write_line(write_fen(q).as_str().as_bytes(), out)
 }
 
 /// Writes what an exit line rests on.
