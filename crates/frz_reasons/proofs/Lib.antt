@@ -6,3 +6,6 @@ mod OneWay
 mod Lengths
 mod Quickest
 mod GamesOfChess
+mod PlaceFacts
+mod Telling
+mod Turned

@@ -6,9 +6,10 @@ ghost use Rattle.frz_answer.specs.Texts.{WroteText};
 ghost use Rattle.frz_arena.specs.Codes.{is_failure};
 ghost use Rattle.frz_reasons.specs.TellingFailures.{TellsFailure};
 
+use crate::laws::failures_are_spoiled;
 use crate::reason::Reason;
 use crate::turn::{Turn, take_turn};
-use frz_answer::{write_line, write_piece};
+use frz_answer::write_line;
 use frz_board::{Colour, Move, move_text};
 use frz_graph::{Entries, Lists, Next, NumberedGame};
 use frz_steps::Steps;
@@ -43,6 +44,7 @@ pub fn write_failing_way<G: NumberedGame<L>, E: Entries, O: Sink, L: Ledger>(
     ensures few { steps.new ≤ steps.old + slice_index (E.codes entries.now side) start / 2 }
     ensures later { steps.old ≤ steps.new }
 {
+    failures_are_spoiled();
     let mut lists = Lists::new();
     let mut number = start;
     'plies: loop {
