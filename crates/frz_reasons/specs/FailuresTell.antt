@@ -20,10 +20,11 @@ code_behind arena side codes a = arm_code arena side (λ k. slice_index codes k)
 -- where the kept code is the local one and a failure, one of these holds
 pub data FailsAt (arena : Arena Step ℕ Value) (side : Colour) (codes : List ℕ)
     (number : ℕ) : Type 0 where
-  -- the side is mated
-  mated : arena.node number ≡ Mate side → FailsAt arena side codes number
-  -- the side is to move, and none of its moves is free
-  renounced : arena.node number ≡ Going side →
+  -- the side is mated, and fails at once
+  mated : arena.node number ≡ Mate side → slice_index codes number ≡ 3 →
+      FailsAt arena side codes number
+  -- the side is to move, and fails at once, since none of its moves is free
+  renounced : arena.node number ≡ Going side → slice_index codes number ≡ 3 →
       ((a : Arm Step ℕ Value) → IsArm arena number a → a.free ≢ true) →
       FailsAt arena side codes number
   -- the side is to move, and behind its free move a it fails one ply (2) sooner. It fails behind

@@ -110,7 +110,6 @@ pub fn tables_are_never_wrong()
     ensures right { (rules : RuleLines) (value : Board → Value) (side : Colour) (codes : List ℕ) →
         IsTableOf rules value side codes →
         (start : ℕ) (arms : List (Arm Step ℕ Value)) (reason : Reason) →
-        is_failure (slice_index codes start) ≡ true →
         FailsFrom (graph_by rules value) side codes start arms reason → IsRight reason }
 {
     failures_are_spoiled();
