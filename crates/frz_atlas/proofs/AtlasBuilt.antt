@@ -1,5 +1,5 @@
 -- How a table over several others is built.
-use Rattle.std.specs.Prelude.{Contains, sum_by}
+use Rattle.std.specs.Prelude.{Contains, map, sum_by}
 use Rattle.std.proofs.Common.{◌≡◌, inl, inr, refl, sym, ap, subst, ◌∙◌, ℕ, ◌+◌, ◌*◌, ◌≤◌, true, List, Option, Result, Ok, Err, arith}
 use Rattle.frz_rules.specs.Text.{Fails, may_want_memory, rules_of}
 use Rattle.frz_rules.specs.declared.fault.RulesError.{RulesError}
@@ -17,7 +17,9 @@ use Rattle.frz_table.specs.Layout.{magic_of}
 use Rattle.frz_build.specs.Building.{Builds, writing_calls}
 use Rattle.frz_build.proofs.Lemmas.{builds_after, costs_added, costs_kept, quiet_same}
 use Rattle.frz_chain.specs.Books.{Back}
+use Rattle.frz_chain.specs.declared.back.BackTable.{BackTable}
 use Rattle.frz_backs.specs.Links.{Link, backs_of}
+use Rattle.frz_backs.specs.Loaded.{link_loaded}
 use Rattle.frz_backs.specs.Values.{atlas_value}
 use Rattle.frz_atlas.specs.Behind.{backs_in}
 use Rattle.frz_atlas.specs.Building.{BuildsAtlas, IsNotBuilt, RefusesToBuild, WithinBuilding, if_read, size_by}
@@ -55,11 +57,14 @@ within_building text rules helds old mid new steps_before steps_then steps_now a
     }
 
 module _ (text : List ℕ) (behind : List (List ℕ)) (name : List ℕ) (rules : RuleLines)
-    (accepted : rules_of text ≡ Ok rules) (links : List Link) (old mid new : StoreTold)
+    (accepted : rules_of text ≡ Ok rules) (backs : List BackTable) (old mid new : StoreTold)
     (steps_before steps_then steps_now : ℕ) (quiet : StoreQuiet old mid) (fine : StoreFine old mid)
-    (opens : OpensAll behind links old mid steps_before steps_then)
+    (opens : OpensAll behind backs old mid steps_before steps_then)
     (steps : steps_now ≤ steps_then + 4 * size_of rules.groups) (asked : new.asked ≡ mid.asked)
     (calls : new.calls ≤ mid.calls + writing_calls (size_of rules.groups)) where
+  abbrev links : List Link
+  links = map link_loaded backs
+
   within_exact : WithinBuilding text (all_held opens.tables) old new steps_before steps_now
   within_exact =
       within_building text rules (all_held opens.tables) old mid new steps_before steps_then

@@ -18,7 +18,9 @@ use Rattle.frz_table.proofs.Lemmas.{belongs, opened_calls, text_kept}
 use Rattle.frz_check.specs.Kept.{ChecksTable, IsVerdictOn, opened_size}
 use Rattle.frz_check.proofs.Lemmas.{file_opens}
 use Rattle.frz_chain.specs.Books.{Back}
+use Rattle.frz_chain.specs.declared.back.BackTable.{BackTable}
 use Rattle.frz_backs.specs.Links.{Link, backs_of}
+use Rattle.frz_backs.specs.Loaded.{link_loaded}
 use Rattle.frz_backs.specs.Values.{atlas_value}
 use Rattle.frz_atlas.specs.Behind.{TableBytes, backs_in, link_of}
 use Rattle.frz_atlas.specs.Causes.{table_fault}
@@ -154,11 +156,14 @@ module _ (table : Table) (name : List ℕ) (behind : List (List ℕ)) (old mid :
   }
 
   -- and all of those behind it
-  module _ (links : List Link) (then new : StoreTold) (steps_then steps_now : ℕ)
-      (h : OpensAll behind links mid then steps_before steps_then)
+  module _ (backs : List BackTable) (then new : StoreTold) (steps_then steps_now : ℕ)
+      (h : OpensAll behind backs mid then steps_before steps_then)
       (more_asked : new.asked ≤ then.asked + 8 * table_size table)
       (more_calls : new.calls ≤ then.calls + 2 * pieces_of (table_size table))
       (steps : steps_now ≤ steps_then + table_size table) where
+    abbrev links : List Link
+    links = map link_loaded backs
+
     held_before : MayHoldAll old.files behind (all_held h.tables)
     held_before = subst (λ (o : Option Files). MayHoldAll o behind (all_held h.tables)) same h.may
 

@@ -11,7 +11,9 @@ use Rattle.frz_table.specs.Possible.{MayHold}
 use Rattle.frz_check.specs.declared.verdict.Verdict.TheVariants.{Exact}
 use Rattle.frz_chain.specs.Books.{Back}
 use Rattle.frz_chain.specs.FileOn.{back_of}
+use Rattle.frz_chain.specs.declared.back.BackTable.{BackTable}
 use Rattle.frz_backs.specs.Links.{Link, backs_of}
+use Rattle.frz_backs.specs.Loaded.{link_loaded}
 use Rattle.frz_atlas.specs.Behind.{AreJudgedOver, IsJudgedOver, IsRefusedAt, IsRefusedOver, TableBytes, backs_in, link_of}
 use Rattle.frz_atlas.specs.Causes.{back_fault}
 use Rattle.frz_atlas.specs.Costs.{WithinAll, WithinOne, bytes_of, calls_of, steps_of}
@@ -122,17 +124,25 @@ none_open told steps = record {
   may = tt;
   exact = tt;
   keeps = refl;
+  texts = refl;
   within = record { steps = omega arith; asked = omega arith; calls = omega arith };
 }
 
-module _ (names : List (List ℕ)) (links : List Link) (old mid new : StoreTold)
+module _ (names : List (List ℕ)) (backs : List BackTable) (old mid new : StoreTold)
     (steps_before steps_between steps_now : ℕ) (name : List ℕ)
-    (h : OpensAll names links old mid steps_before steps_between)
+    (h : OpensAll names backs old mid steps_before steps_between)
     (same : mid.files ≡ old.files) where
+  abbrev links : List Link
+  links = map link_loaded backs
+
   -- one more is open
-  pub one_more : (link : Link) → OpensOver (backs_of links) name link mid new steps_between steps_now
-      → OpensAll (names ++ (name ∷ [])) (links ++ (link ∷ [])) old new steps_before steps_now
-  one_more link k =
+  pub one_more : (given : BackTable)
+      → OpensOver (backs_of links) name given mid new steps_between steps_now
+      → OpensAll (names ++ (name ∷ [])) (backs ++ (given ∷ [])) old new steps_before steps_now
+  one_more given k =
+      let link = link_loaded given in
+      let text_of : BackTable → List ℕ = λ back. back.table.text in
+      let read_in : TableBytes → List ℕ = λ t. t.contents.text in
       let tables : List TableBytes = h.tables ++ (k.table ∷ []) in
       let helds : all_held h.tables ++ (Some k.table.bytes ∷ []) ≡ all_held tables =
       sym (map-append (λ (t : TableBytes). Some t.bytes) h.tables (k.table ∷ [])) in
@@ -146,9 +156,14 @@ module _ (names : List (List ℕ)) (links : List Link) (old mid new : StoreTold)
         exact = judged_more [] h.tables k.table h.exact k.are_bytes
             (subst (λ (b : List Back). IsJudgedOver b k.table Exact)
             (kept_backs links h.tables h.keeps) k.judged);
-        keeps = ap (λ (l : List Link). l ++ (link ∷ [])) h.keeps
+        keeps = map-append link_loaded backs (given ∷ [])
+            ∙ ap (λ (l : List Link). l ++ (link ∷ [])) h.keeps
             ∙ ap (λ (x : Link). map link_of h.tables ++ (x ∷ [])) k.keeps
             ∙ sym (map-append link_of h.tables (k.table ∷ []));
+        texts = map-append text_of backs (given ∷ [])
+            ∙ ap (λ (l : List (List ℕ)). l ++ (given.table.text ∷ [])) h.texts
+            ∙ ap (λ (x : List ℕ). map read_in h.tables ++ (x ∷ [])) k.text
+            ∙ sym (map-append read_in h.tables (k.table ∷ []));
         within = subst (λ (l : List (Option (List ℕ))). WithinAll l old new steps_before steps_now)
             helds (within_more (all_held h.tables) [] (Some k.table.bytes) old mid new steps_before
             steps_between steps_now h.within k.within);
@@ -184,11 +199,12 @@ module _ (names : List (List ℕ)) (links : List Link) (old mid new : StoreTold)
   pub one_refused : (more : List (List ℕ)) (fault : BackFault)
       → RefusesOver (backs_of links) name mid new steps_between steps_now fault
       → RefusesAll (names ++ (name ∷ more)) old new steps_before steps_now
-      (back_fault (length links) fault)
+      (back_fault (length backs) fault)
   one_refused more fault k =
       let rest : List (Option (List ℕ)) = some_helds old.files more in
-      let many : length h.tables ≡ length links =
-      sym (ap (length {A = Link}) h.keeps ∙ length-map h.tables link_of) in
+      let many : length h.tables ≡ length backs =
+      sym (ap (length {A = Link}) h.keeps ∙ length-map h.tables link_of)
+      ∙ length-map backs link_loaded in
       record {
         helds = all_held h.tables ++ (k.held ∷ rest);
         may =
@@ -204,10 +220,10 @@ module _ (names : List (List ℕ)) (links : List Link) (old mid new : StoreTold)
       }
 
 -- memory was wanted once these were open
-pub memory_wanted : (names more : List (List ℕ)) (links : List Link) (old new : StoreTold)
-    (steps_before steps_now : ℕ) → OpensAll names links old new steps_before steps_now
+pub memory_wanted : (names more : List (List ℕ)) (backs : List BackTable) (old new : StoreTold)
+    (steps_before steps_now : ℕ) → OpensAll names backs old new steps_before steps_now
     → RefusesAll (names ++ more) old new steps_before steps_now atlas.NoMemory
-memory_wanted names more links old new steps_before steps_now h = record {
+memory_wanted names more backs old new steps_before steps_now h = record {
   helds = all_held h.tables ++ some_helds old.files more;
   may = may_hold_both old.files names more (all_held h.tables) (some_helds old.files more) h.may
       (may_hold_some old.files more);

@@ -1,5 +1,5 @@
 -- The causes of the faults of several tables.
-use Rattle.std.proofs.Common.{refl, subst, ℕ, Result, Ok, Err}
+use Rattle.std.proofs.Common.{refl, subst, ℕ, List, Result, Ok, Err}
 use Rattle.frz_store.specs.Outside.{Rose, StoreCauses}
 use Rattle.frz_store.specs.Told.{StoreTold, StoreFine}
 use Rattle.frz_store.specs.declared.outside.StoreFault.{StoreFault}
@@ -9,8 +9,8 @@ use Rattle.frz_table.specs.declared.fault.TableFault.TheVariants.{Missing, Magic
 use Rattle.frz_table.specs.Faults.{TableCauses, fault_of}
 use Rattle.frz_table.proofs.Lemmas.{fine_after}
 use Rattle.frz_check.specs.declared.verdict.Verdict.{Verdict}
-use Rattle.frz_chain.specs.Books.{Back}
 use Rattle.frz_chain.specs.declared.back.BackTable.{BackTable}
+use Rattle.frz_backs.specs.Links.{Link}
 use Rattle.frz_atlas.specs.Causes.{HasAtlasCause, HasFileCause, HasOneCause, back_fault}
 use Rattle.frz_atlas.specs.Opening.{GivesBack}
 use Rattle.frz_atlas.specs.declared.fault.AtlasFault.{AtlasFault}
@@ -71,12 +71,12 @@ one_later T U fault old mid new fine h =
     one_cause T U fault old new (file_later T (Err fault) old mid new fine h)
 
 -- the store refused no call, and the codes were exact or not
-pub given_cause : (back : Back) (v : Verdict) (result : Result BackTable BackFault)
-    (old new : StoreTold) → GivesBack back v result → StoreFine old new
+pub given_cause : (link : Link) (text : List ℕ) (v : Verdict) (result : Result BackTable BackFault)
+    (old new : StoreTold) → GivesBack link text v result → StoreFine old new
     → HasOneCause result old new
-given_cause back v (Ok given) old new gives fine = fine
-given_cause back v (Err (one.Wrong wrong)) old new gives fine = fine
-given_cause back v (Err (one.Refused fault)) old new gives fine = absurd gives
+given_cause link text v (Ok given) old new gives fine = fine
+given_cause link text v (Err (one.Wrong wrong)) old new gives fine = fine
+given_cause link text v (Err (one.Refused fault)) old new gives fine = absurd gives
 
 -- the fault of one is that of all, behind those that were opened
 pub atlas_cause : (T U : Type 0) (place : ℕ) (fault : BackFault) (old mid new : StoreTold)

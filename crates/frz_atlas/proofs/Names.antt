@@ -1,11 +1,11 @@
 -- A step over names in order: those before a place, the one at it and those behind it.
 use Rattle.std.proofs.Common.{◌≡◌, sym, ap, subst, ◌∙◌, ℕ, suc, ◌+◌, ◌<◌, List, [], ◌∷◌, ◌++◌, length, map, take, drop, get_or, drop-cons, append_assoc}
-use Rattle.std.proofs.lemmas.List.{length-map, map-append, map_more, take-append-drop}
+use Rattle.std.proofs.lemmas.List.{map-append, map_more, take-append-drop}
 use Rattle.frz_store.specs.Told.{StoreTold}
 use Rattle.frz_chain.specs.Books.{Back}
 use Rattle.frz_chain.specs.FileOn.{loaded_back}
 use Rattle.frz_chain.specs.declared.back.BackTable.{BackTable}
-use Rattle.frz_backs.specs.Links.{Link, backs_of}
+use Rattle.frz_backs.specs.Links.{backs_of}
 use Rattle.frz_backs.specs.Loaded.{link_loaded}
 use Rattle.frz_backs.proofs.Lemmas.{loaded_backs}
 use Rattle.frz_atlas.specs.Causes.{back_fault}
@@ -32,34 +32,30 @@ module _ {A : Type 0} (f : A → List ℕ) (names : List A) (i : ℕ) (x : A) (n
     (items slice : List BackTable) (old mid new : StoreTold)
     (steps_before steps_between steps_now : ℕ) (inside : i < length names)
     (is : x ≡ get_or names i x) (named : name ≡ f x) (sliced : slice ≡ items)
-    (h : OpensAll (map f (take i names)) (map link_loaded items) old mid steps_before steps_between)
+    (h : OpensAll (map f (take i names)) items old mid steps_before steps_between)
     (same : mid.files ≡ old.files) where
   before : map loaded_back slice ≡ backs_of (map link_loaded items)
   before = ap (map loaded_back) sliced ∙ sym (loaded_backs items)
 
-  next_open : (link : Link)
-      → OpensOver (map loaded_back slice) name link mid new steps_between steps_now
-      → OpensAll (map f (take i names) ++ (f x ∷ [])) (map link_loaded items ++ (link ∷ [])) old new
+  next_open : (given : BackTable)
+      → OpensOver (map loaded_back slice) name given mid new steps_between steps_now
+      → OpensAll (map f (take i names) ++ (f x ∷ [])) (items ++ (given ∷ [])) old new
       steps_before steps_now
-  next_open link k =
-      one_more (map f (take i names)) (map link_loaded items) old mid new steps_before steps_between
-      steps_now (f x) h same link
-      (subst (λ (l : List Back). OpensOver l (f x) link mid new steps_between steps_now) before
-      (subst (λ (n : List ℕ). OpensOver (map loaded_back slice) n link mid new
+  next_open given k =
+      one_more (map f (take i names)) items old mid new steps_before steps_between
+      steps_now (f x) h same given
+      (subst (λ (l : List Back). OpensOver l (f x) given mid new steps_between steps_now) before
+      (subst (λ (n : List ℕ). OpensOver (map loaded_back slice) n given mid new
       steps_between steps_now) named k))
 
   pub opened_next : (given : BackTable) (pushed : List BackTable) → pushed ≡ items ++ (given ∷ [])
-      → OpensOver (map loaded_back slice) name (link_loaded given) mid new steps_between steps_now
-      → OpensAll (map f (take (i + 1) names)) (map link_loaded pushed) old new
-      steps_before steps_now
+      → OpensOver (map loaded_back slice) name given mid new steps_between steps_now
+      → OpensAll (map f (take (i + 1) names)) pushed old new steps_before steps_now
   opened_next given pushed push k =
-      subst (λ (l : List (List ℕ)). OpensAll l (map link_loaded pushed) old new
+      subst (λ (l : List (List ℕ)). OpensAll l pushed old new
       steps_before steps_now) (names_next f names i x inside is)
-      (subst (λ (l : List Link). OpensAll (map f (take i names) ++ (f x ∷ [])) l old new
-      steps_before steps_now)
-      (sym (ap (λ (l : List BackTable). map link_loaded l) push
-      ∙ map-append link_loaded items (given ∷ [])))
-      (next_open (link_loaded given) k))
+      (subst (λ (l : List BackTable). OpensAll (map f (take i names) ++ (f x ∷ [])) l old new
+      steps_before steps_now) (sym push) (next_open given k))
 
   pub refused_here : (fault : BackFault) → length items ≡ i
       → RefusesOver (map loaded_back slice) name mid new steps_between steps_now fault
@@ -68,19 +64,19 @@ module _ {A : Type 0} (f : A → List ℕ) (names : List A) (i : ℕ) (x : A) (n
       subst (λ (l : List (List ℕ)). RefusesAll l old new steps_before steps_now
       (back_fault i fault)) (names_here f names i x inside is)
       (subst (λ (n : ℕ). RefusesAll (map f (take i names) ++ (f x ∷ map f (drop (suc i) names)))
-      old new steps_before steps_now (back_fault n fault)) (length-map items link_loaded ∙ many)
-      (one_refused (map f (take i names)) (map link_loaded items) old mid new steps_before
+      old new steps_before steps_now (back_fault n fault)) many
+      (one_refused (map f (take i names)) items old mid new steps_before
       steps_between steps_now (f x) h same (map f (drop (suc i) names)) fault
       (subst (λ (l : List Back). RefusesOver l (f x) mid new steps_between steps_now fault) before
       (subst (λ (n : List ℕ). RefusesOver (map loaded_back slice) n mid new
       steps_between steps_now fault) named k))))
 
-  pub wanted_here : (link : Link)
-      → OpensOver (map loaded_back slice) name link mid new steps_between steps_now
+  pub wanted_here : (given : BackTable)
+      → OpensOver (map loaded_back slice) name given mid new steps_between steps_now
       → RefusesAll (map f names) old new steps_before steps_now atlas.NoMemory
-  wanted_here link k =
+  wanted_here given k =
       subst (λ (l : List (List ℕ)). RefusesAll l old new steps_before steps_now atlas.NoMemory)
       (append_assoc (map f (take i names)) (f x ∷ []) (map f (drop (suc i) names))
       ∙ names_here f names i x inside is)
       (memory_wanted (map f (take i names) ++ (f x ∷ [])) (map f (drop (suc i) names))
-      (map link_loaded items ++ (link ∷ [])) old new steps_before steps_now (next_open link k))
+      (items ++ (given ∷ [])) old new steps_before steps_now (next_open given k))

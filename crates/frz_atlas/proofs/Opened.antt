@@ -114,13 +114,14 @@ not_loaded before table name old mid new steps_before steps_now fault opens aske
     }
 
 -- a file that the name may hold, with the verdict on the lists that were loaded
-pub record JudgedOver (before : List Back) (name : List ℕ) (link : Link) (v : Verdict)
-    (old new : StoreTold) (steps_before steps_now : ℕ) : Type 0 where
+pub record JudgedOver (before : List Back) (name : List ℕ) (link : Link) (text : List ℕ)
+    (v : Verdict) (old new : StoreTold) (steps_before steps_now : ℕ) : Type 0 where
   pub table : TableBytes
   pub may : MayHold old.files name (Some table.bytes)
   pub are_bytes : AreBytes table.bytes
   pub judged : IsJudgedOver before table v
   pub keeps : link ≡ link_of table
+  pub reads : text ≡ table.contents.text
   pub within : WithinOne (Some table.bytes) old new steps_before steps_now
 
 -- the verdict on the lists is one on the file
@@ -180,7 +181,7 @@ pub judged_over : (before : List Back) (table : Table) (name white black : List 
     → steps_now ≤ steps_before + table_size table
     → IsVerdict table.rules (value_over (leans_as table.kind) table.rules before)
     (λ side. of_side side white black) v
-    → JudgedOver before name (link_with table white black) v old new
+    → JudgedOver before name (link_with table white black) table.text v old new
     steps_before steps_now
 judged_over before table name white black v old mid new steps_before steps_now are kept same
     kind named may asked calls more_asked more_calls steps h =
@@ -201,27 +202,29 @@ judged_over before table name white black v old mid new steps_before steps_now a
       judged = judged;
       keeps =
           link_kept table white black kept.bytes leaning (sym kept.white_is) (sym kept.black_is);
+      reads = refl;
       within = within_one kept.bytes contents old mid new steps_before steps_now judged.opens asked
           calls more_asked more_calls steps;
     }
 
 -- the table is given, or its first wrong entry
-module _ (before : List Back) (name : List ℕ) (link : Link) (v : Verdict) (old new : StoreTold)
-    (steps_before steps_now : ℕ)
-    (h : JudgedOver before name link v old new steps_before steps_now) where
-  pub back_given : (result : Result BackTable BackFault) → GivesBack link v result
-      → IfOk result (λ b. OpensOver before name (link_loaded b) old new steps_before steps_now)
+module _ (before : List Back) (name : List ℕ) (link : Link) (text : List ℕ) (v : Verdict)
+    (old new : StoreTold) (steps_before steps_now : ℕ)
+    (h : JudgedOver before name link text v old new steps_before steps_now) where
+  pub back_given : (result : Result BackTable BackFault) → GivesBack link text v result
+      → IfOk result (λ b. OpensOver before name b old new steps_before steps_now)
   back_given (Ok given) gives = record {
     table = h.table;
     may = h.may;
     are_bytes = h.are_bytes;
     judged = subst (λ (w : Verdict). IsJudgedOver before h.table w) gives.0 h.judged;
     keeps = gives.1 ∙ h.keeps;
+    text = gives.2 ∙ h.reads;
     within = h.within;
   }
   back_given (Err fault) gives = tt
 
-  pub back_wrong : (result : Result BackTable BackFault) → GivesBack link v result
+  pub back_wrong : (result : Result BackTable BackFault) → GivesBack link text v result
       → IfErr result (RefusesOver before name old new steps_before steps_now)
   back_wrong (Ok given) gives = tt
   back_wrong (Err (one.Wrong wrong)) gives = record {

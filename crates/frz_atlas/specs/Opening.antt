@@ -49,21 +49,24 @@ link_with table white black = record {
   back = back_with table.rules.groups white black;
 }
 
--- the table is given if the verdict on its codes is exact, and else its first wrong entry
-abbrev pub GivesBack : Link → Verdict → Result BackTable BackFault → Type 0
-GivesBack link verdict (Ok given) = (verdict ≡ Exact) × (link_loaded given ≡ link)
-GivesBack link verdict (Err (one.Wrong wrong)) = verdict ≡ WrongCodes wrong
-GivesBack link verdict (Err (one.Refused fault)) = ⊥
+-- the table with this text is given if the verdict on its codes is exact, and else its first wrong
+-- entry
+abbrev pub GivesBack : Link → List ℕ → Verdict → Result BackTable BackFault → Type 0
+GivesBack link text verdict (Ok given) =
+    (verdict ≡ Exact) × (link_loaded given ≡ link) × (given.table.text ≡ text)
+GivesBack link text verdict (Err (one.Wrong wrong)) = verdict ≡ WrongCodes wrong
+GivesBack link text verdict (Err (one.Refused fault)) = ⊥
 
 -- the name may hold a table that is exact over those before it, and this is that table, with its
--- rules, and whether it leans on those before it
-pub record OpensOver (before : List Back) (name : List ℕ) (link : Link) (old new : StoreTold)
+-- text and its rules, and whether it leans on those before it
+pub record OpensOver (before : List Back) (name : List ℕ) (given : BackTable) (old new : StoreTold)
     (steps_before steps_now : ℕ) : Type 0 where
   pub table : TableBytes
   pub may : MayHold old.files name (Some table.bytes)
   pub are_bytes : AreBytes table.bytes
   pub judged : IsJudgedOver before table Exact
-  pub keeps : link ≡ link_of table
+  pub keeps : link_loaded given ≡ link_of table
+  pub text : given.table.text ≡ table.contents.text
   pub within : WithinOne (Some table.bytes) old new steps_before steps_now
 
 -- what the name holds is refused for this reason; nothing is said where the store failed or memory
@@ -81,13 +84,14 @@ pub record RefusesOver (before : List Back) (name : List ℕ) (old new : StoreTo
   pub within : WithinOne held old new steps_before steps_now
 
 -- the names may hold tables that are exact, each over those before it, and these are those tables,
--- with their rules, and whether they lean on those before them
-pub record OpensAll (names : List (List ℕ)) (links : List Link) (old new : StoreTold)
+-- with their texts and their rules, and whether they lean on those before them
+pub record OpensAll (names : List (List ℕ)) (backs : List BackTable) (old new : StoreTold)
     (steps_before steps_now : ℕ) : Type 0 where
   pub tables : List TableBytes
   pub may : MayHoldAll old.files names (all_held tables)
   pub exact : AreJudged tables
-  pub keeps : links ≡ map link_of tables
+  pub keeps : map link_loaded backs ≡ map link_of tables
+  pub texts : map (λ back. back.table.text) backs ≡ map (λ t. t.contents.text) tables
   pub within : WithinAll (all_held tables) old new steps_before steps_now
 
 -- what one of the names holds is refused for this reason, and those before it hold exact tables;

@@ -10,7 +10,7 @@ ghost use Rattle.frz_table.specs.Tables.{Carries, table_size};
 ghost use Rattle.frz_check.specs.Verdicts.{IsVerdict};
 ghost use Rattle.frz_chain.specs.FileOn.{loaded_back};
 ghost use Rattle.frz_backs.specs.Links.{value_over};
-ghost use Rattle.frz_backs.specs.Loaded.{leans_as, link_loaded};
+ghost use Rattle.frz_backs.specs.Loaded.{leans_as};
 ghost use Rattle.frz_atlas.specs.Causes.{HasAtlasCause, HasFileCause, HasOneCause};
 ghost use Rattle.frz_atlas.specs.Opening.{GivesBack, OpensAll, OpensOver, RefusesAll, RefusesOver, link_with};
 
@@ -64,7 +64,7 @@ fn load_over<S: Store, L: Ledger>(
 fn exact_back(table: TableFile, loaded: CheckedCodes) -> Result<BackTable, BackFault>
     requires white { length loaded.white.items ≡ table_size table }
     requires black { length loaded.black.items ≡ table_size table }
-    ensures { GivesBack (link_with table loaded.white.items loaded.black.items)
+    ensures { GivesBack (link_with table loaded.white.items loaded.black.items) table.text
         loaded.verdict result }
 {
     match loaded.verdict {
@@ -87,8 +87,7 @@ pub fn open_over<S: Store, L: Ledger>(
     steps: &mut Steps<L>,
 ) -> Result<BackTable, BackFault>
     ensures opened { IfOk result (λ back. OpensOver (map loaded_back before.now) name.now
-        (link_loaded back) (store_of S.Store store.old) (store_of S.Store store.new)
-        steps.old steps.new) }
+        back (store_of S.Store store.old) (store_of S.Store store.new) steps.old steps.new) }
     ensures refused { IfErr result (RefusesOver (map loaded_back before.now) name.now
         (store_of S.Store store.old) (store_of S.Store store.new) steps.old steps.new) }
     ensures quiet { StoreQuiet (store_of S.Store store.old) (store_of S.Store store.new) }
@@ -114,7 +113,7 @@ pub fn open_behind<S: Store, L: Ledger>(
     steps: &mut Steps<L>,
 ) -> Result<Vec<BackTable>, AtlasFault>
     ensures opened { IfOk result (λ backs. OpensAll (map string_bytes names.now)
-        (map link_loaded backs.items) (store_of S.Store store.old) (store_of S.Store store.new)
+        backs.items (store_of S.Store store.old) (store_of S.Store store.new)
         steps.old steps.new) }
     ensures refused { IfErr result (RefusesAll (map string_bytes names.now)
         (store_of S.Store store.old) (store_of S.Store store.new) steps.old steps.new) }

@@ -1,14 +1,14 @@
 -- Files that hold at once what each of several names may hold, of which no two are one.
-use Rattle.std.proofs.Common.{◌≡◌, refl, sym, ap, ◌∙◌, ℕ, zero, suc, ◌<◌, List, [], ◌∷◌, length, Bool, true, false, ◌||◌, Option, Some, None, if◌then◌else◌, IfSome, arith}
+use Rattle.std.proofs.Common.{◌≡◌, refl, sym, ap, subst, ◌∙◌, ℕ, zero, suc, ◌<◌, List, [], ◌∷◌, length, Bool, true, false, ◌||◌, Option, Some, None, if◌then◌else◌, IfSome, arith}
 use Rattle.std.specs.Prelude.{map, Contains}
 use Rattle.std.specs.List.{list_any}
 use Rattle.std.specs.Str.{bytes_eq}
 use Rattle.std.proofs.lemmas.Slice.Eq.{bytes_eq-Decides}
-use Rattle.frz_store.specs.Bytes.{AreBytes, MayBeHeld}
+use Rattle.frz_store.specs.Bytes.{AreBytes, HoldsBytes, MayBeHeld}
 use Rattle.frz_store.specs.Files.{Files, no_files}
 use Rattle.frz_table.specs.Possible.{MayHold}
 use Rattle.frz_atlas.specs.Behind.{AreJudgedOver, IsRefusedAt, TableBytes}
-use Rattle.frz_atlas.specs.Held.{MayHoldAll}
+use Rattle.frz_atlas.specs.Held.{MayHoldAll, all_held}
 use Rattle.frz_atlas.specs.declared.fault.BackFault.{BackFault}
 use Rattle.frz_chain.specs.Books.{Back}
 use Rattle.frz_atlas_prelude.specs.Names.{has_twice}
@@ -153,6 +153,22 @@ unfolding AreJudgedOver AreExactOver
 judged_exact before [] h = tt
 judged_exact before (table ∷ tables) h =
     (h.1, judged_exact (with_table before table) tables h.2)
+
+-- exact tables of files of bytes were judged so
+pub judged_over : (files : Files) → HoldsBytes files → (before : List Back) (names : List (List ℕ))
+    (tables : List TableBytes) → map files names ≡ all_held tables → AreExactOver before tables
+    → AreJudgedOver before tables
+unfolding AreExactOver AreJudgedOver
+judged_over files are before [] [] e h = tt
+judged_over files are before [] (table ∷ tables) e h = cc
+judged_over files are before (name ∷ names) [] e h = tt
+judged_over files are before (name ∷ names) (table ∷ tables) e h =
+    let there : files name ≡ Some table.bytes = cc in
+    let rest : map files names ≡ all_held tables = cc in (
+      subst (λ (o : Option (List ℕ)). IfSome o AreBytes) there (are name),
+      h.0,
+      judged_over files are (with_table before table) names tables rest h.1,
+    )
 
 -- of two lists that are equal, the first elements and the rest
 pub same_first : (a b : Option (List ℕ)) (xs ys : List (Option (List ℕ))) → (a ∷ xs) ≡ (b ∷ ys) → a ≡ b

@@ -6,6 +6,7 @@ pub use Rattle.frz_atlas_prelude.proofs.HeldNames.{
   first_alone,
   holding_all,
   judged_exact,
+  judged_over,
   may_hold_first,
   may_hold_there,
   not_contained,

@@ -1,14 +1,9 @@
 -- The plies in which a win over several tables mates.
-use Rattle.std.proofs.Common.{◌≤◌, ◌+◌, max, ℕ, List, [], ◌∷◌, ◌++◌, Bool, true, false, All, arith}
+use Rattle.std.proofs.Common.{◌≤◌, max, ℕ, List, [], ◌∷◌, ◌++◌, Bool, true, false, All, arith}
 use Rattle.std.proofs.lemmas.List.Elements.{All-nil, All-cons, All-head, All-tail, All-push, All-weaker}
-use Rattle.frz_board.specs.Boards.{Board}
 use Rattle.frz_board.specs.declared.man.Colour.{Colour}
 use Rattle.frz_sets.specs.Views.{RuleLines}
 use Rattle.frz_exits.specs.Books.{value_by}
-use Rattle.frz_arena.specs.declared.bound.Bound.TheVariants.{Wins}
-use Rattle.frz_arena.specs.Chess.{ForcesMate}
-use Rattle.frz_game.specs.Bounds.{IsBoundAt}
-use Rattle.frz_game.specs.Games.{chess}
 use Rattle.frz_game.specs.Values.{AreTrueExits}
 use Rattle.frz_chain.specs.Books.{Back, back_value}
 use Rattle.frz_chain.specs.ChainPlies.{OwnWinsNumbered, WinsWithinPlies}

@@ -27,36 +27,18 @@ use Rattle.frz_answer.specs.declared.status.Status.{Status}
 use Rattle.frz_answer.specs.declared.status.Status.TheVariants as statuses
 use Rattle.frz_answer.specs.Answers.{Answer, says}
 use Rattle.frz_prelude.proofs.Lemmas.{by_table_status}
-use Rattle.frz_atlas.specs.Behind.{AreJudged, AreJudgedOver, TableBytes, backs_in, link_of}
+use Rattle.frz_atlas.specs.Behind.{AreJudged, TableBytes, backs_in, link_of}
 use Rattle.frz_atlas.specs.Checking.{sizes_in}
-use Rattle.frz_atlas.specs.Held.{all_held}
 use Rattle.frz_atlas.specs.declared.fault.BackFault.{BackFault}
 use Rattle.frz_atlas.specs.declared.fault.BackFault.TheVariants.{Refused, Wrong}
 use Rattle.frz_atlas.proofs.Lemmas.{judged_exact, links_backs}
 use Rattle.frz_atlas_prelude.specs.BackLines.{back_status}
 use Rattle.frz_atlas_prelude.specs.TableRefusals.{RefusesBehind}
-use Rattle.frz_atlas_prelude.specs.Tables.{AreExactOver}
-use Rattle.frz_atlas_prelude.proofs.Lemmas.{never_refused, with_table}
+use Rattle.frz_atlas_prelude.proofs.Lemmas.{judged_over, never_refused, not_both}
 use Rattle.frz_commands_atlas.specs.AtlasHeadline.{AtlasHeadline}
 use Rattle.frz_commands_atlas.specs.Checking.{IsCheckedAt, IsJudgedAtlas, judged, no_back, no_table, verdict_line, verdict_status}
 use Rattle.frz_commands_atlas.specs.CheckMeans.{HoldsAtlas, MeansCheck, MeansStatus, of_back, of_entry, of_fault, of_table}
-use Rattle.frz_commands_atlas.proofs.CheckOnce.{not_both, opens_judged, same_verdict}
-
--- exact tables of files of bytes were judged so
-judged_over : (files : Files) → HoldsBytes files → (before : List Back) (names : List (List ℕ))
-    (tables : List TableBytes) → map files names ≡ all_held tables → AreExactOver before tables
-    → AreJudgedOver before tables
-unfolding AreExactOver AreJudgedOver
-judged_over files are before [] [] e h = tt
-judged_over files are before [] (table ∷ tables) e h = cc
-judged_over files are before (name ∷ names) [] e h = tt
-judged_over files are before (name ∷ names) (table ∷ tables) e h =
-    let there : files name ≡ Some table.bytes = cc in
-    let rest : map files names ≡ all_held tables = cc in (
-      subst (λ (o : Option (List ℕ)). IfSome o AreBytes) there (are name),
-      h.0,
-      judged_over files are (with_table before table) names tables rest h.1,
-    )
+use Rattle.frz_commands_atlas.proofs.CheckOnce.{opens_judged, same_verdict}
 
 module _ (table : List ℕ) (behind : List (List ℕ)) (files : Files) (are : HoldsBytes files) where
   module _ (h : IsJudgedAtlas (files table) (map files behind) verdicts.Exact) where

@@ -1,3 +1,4 @@
+pub mod Lemmas
 mod LastPly
 mod Leaving
 mod Finding

@@ -7,7 +7,6 @@ use Rattle.frz_sets.specs.Views.{RuleLines}
 use Rattle.frz_store.specs.Told.{store_of}
 use Rattle.frz_table.proofs.Lemmas.{read_short}
 use Rattle.frz_chain.specs.FileOn.{loaded_back}
-use Rattle.frz_backs.specs.Loaded.{link_loaded}
 use Rattle.frz_backs.proofs.Lemmas.{loaded_backs}
 use Rattle.frz_atlas.specs.Building.{RefusesToBuild}
 use Rattle.frz_atlas.specs.Causes.{HasAtlasCause}
@@ -45,7 +44,7 @@ returns-in_err-build_over-clause-refused g c =
     c.args.steps.now c.build_over.new.steps))
     (sym (p.1 ∙ ap err p.2))
     (not_built c.args.text.now (map string_bytes c.args.behind.now) c.args.name.now
-    c.in_ok-rules.rules c.in_ok-rules.ensures.exact (map link_loaded c.in_ok-backs.backs.items) old
+    c.in_ok-rules.rules c.in_ok-rules.ensures.exact c.in_ok-backs.backs.items old
     mid new c.args.steps.now c.open_behind.new.steps c.build_over.new.steps backs.quiet backs.cause
     backs.opened over.cost over.asked over.calls c.in_err-build_over.field-0.0 _
     (ap (map loaded_back) c.deref.ensures.value ∙ sym (loaded_backs c.in_ok-backs.backs.items))
@@ -68,7 +67,7 @@ returns-clause-built g c =
     let backs = c.in_ok-backs.ensures in
     let over = c.in_ok-build_over.ensures in
     built c.args.text.now (map string_bytes c.args.behind.now) c.args.name.now c.in_ok-rules.rules
-    c.in_ok-rules.ensures.exact (map link_loaded c.in_ok-backs.backs.items)
+    c.in_ok-rules.ensures.exact c.in_ok-backs.backs.items
     (store_of g.S.Store c.args.store.now) (store_of g.S.Store c.open_behind.new.store)
     (store_of g.S.Store c.build_over.new.store) c.args.steps.now c.open_behind.new.steps
     c.build_over.new.steps backs.quiet backs.cause

@@ -66,7 +66,7 @@ returns-in_err-sizes-clause-refused g c =
     (RefusesAtlas table behind old new c.args.steps.now c.open_behind.new.steps))
     (sym (p.1 ∙ ap err p.2))
     (not_loaded c.in-Ok.opened table behind old mid c.args.steps.now e.may_open
-    e.quiet.unwritten.files e.asked e.calls (map link_loaded c.in_ok-backs.backs.items) new new
+    e.quiet.unwritten.files e.asked e.calls c.in_ok-backs.backs.items new new
     c.open_behind.new.steps c.open_behind.new.steps c.in_ok-backs.ensures.opened
     (omega arith) (omega arith) (omega arith) NoMemory tt)
 
@@ -90,7 +90,7 @@ returns-in-Ok-check_kept-clause-verdict g c =
     ∙ (sym (map-map of_back loaded_back backs)
     ∙ ap (map of_back) (sym (loaded_backs backs)))) in
     checked table c.args.table.now (map string_bytes c.args.behind.now) old mid c.args.steps.now
-    e.may_open e.quiet.unwritten.files e.asked e.calls links
+    e.may_open e.quiet.unwritten.files e.asked e.calls backs
     then new c.open_behind.new.steps c.check_kept.new.steps b.opened k.asked k.calls k.steps
     b.quiet.unwritten.files e.kind e.name _ size sizes
     (subst (λ (value : Board → Value). ChecksTable (g.S.Store.files c.open_behind.new.store) table
@@ -113,6 +113,6 @@ returns-clause-refused g c =
     c.check_kept.new.steps f)
     (sym c.of_table-in-Err-check_kept.ensures)
     (not_loaded c.in-Ok.opened name behind old mid c.args.steps.now e.may_open
-    e.quiet.unwritten.files e.asked e.calls (map link_loaded c.in_ok-backs.backs.items)
+    e.quiet.unwritten.files e.asked e.calls c.in_ok-backs.backs.items
     then new c.open_behind.new.steps c.check_kept.new.steps c.in_ok-backs.ensures.opened k.asked
     k.calls k.steps c.in-Err-check_kept.fault k.outside)

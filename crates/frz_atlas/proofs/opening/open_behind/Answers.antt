@@ -2,7 +2,6 @@ use Rattle.std.proofs.Common.{arith, rules}
 use Rattle.std.proofs.lemmas.Result.{err_from_is_err_and}
 use Rattle.frz_store.specs.Told.{store_of}
 use Rattle.frz_table.proofs.Lemmas.{fine_after, quiet_after}
-use Rattle.frz_backs.specs.Loaded.{link_loaded}
 use Rattle.frz_atlas.proofs.Behind.{none_open}
 use Rattle.frz_atlas.proofs.Names.{opened_next, refused_here, wanted_here}
 use Rattle.frz_atlas.proofs.opening.open_behind.Goals as goal
@@ -38,7 +37,7 @@ returns-in_err-push-clause-refused g c =
     (store_of g.S.Store c.open_over.new.store) c.args.steps.now c.loop-place.steps
     c.open_over.new.steps c.loop-place-test.true c.index-names-place.is c.deref.ensures
     c.deref-in-loop-place.ensures.value c.loop-place.invariant.opened
-    c.loop-place.invariant.quiet.unwritten.files (link_loaded c.in-Ok.back)
+    c.loop-place.invariant.quiet.unwritten.files c.in-Ok.back
     c.in-Ok.ensures.opened)
 
 pub loop-place-preserved : goal.loop-place-preserved

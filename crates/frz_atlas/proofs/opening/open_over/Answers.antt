@@ -16,7 +16,7 @@ use Rattle.frz_atlas.proofs.opening.open_over.Goals.{After-exact_back}
 judged : (g : Over) (c : After-exact_back g)
     → JudgedOver (map loaded_back c.args.before.now) c.args.name.now
     (link_with c.in-Ok.table c.in-Ok-load_over.loaded.white.items
-    c.in-Ok-load_over.loaded.black.items)
+    c.in-Ok-load_over.loaded.black.items) c.in-Ok.table.text
     c.in-Ok-load_over.loaded.verdict (store_of g.S.Store c.args.store.now)
     (store_of g.S.Store c.load_over.new.store) c.args.steps.now c.load_over.new.steps
 judged g c =
@@ -44,15 +44,15 @@ returns-in-Err-clause-cause g c =
 
 pub returns-in-Ok-load_over-clause-opened : goal.returns-in-Ok-load_over-clause-opened
 returns-in-Ok-load_over-clause-opened g c =
-    back_given _ _ _ _ _ _ _ _ (judged g c) c.exact_back.result c.exact_back.ensures
+    back_given _ _ _ _ _ _ _ _ _ (judged g c) c.exact_back.result c.exact_back.ensures
 
 pub returns-in-Ok-load_over-clause-refused : goal.returns-in-Ok-load_over-clause-refused
 returns-in-Ok-load_over-clause-refused g c =
-    back_wrong _ _ _ _ _ _ _ _ (judged g c) c.exact_back.result c.exact_back.ensures
+    back_wrong _ _ _ _ _ _ _ _ _ (judged g c) c.exact_back.result c.exact_back.ensures
 
 pub returns-in-Ok-load_over-clause-cause : goal.returns-in-Ok-load_over-clause-cause
 returns-in-Ok-load_over-clause-cause g c =
-    given_cause _ _ c.exact_back.result (store_of g.S.Store c.args.store.now)
+    given_cause _ _ _ c.exact_back.result (store_of g.S.Store c.args.store.now)
     (store_of g.S.Store c.load_over.new.store) c.exact_back.ensures
     (fine_after (store_of g.S.Store c.args.store.now) (store_of g.S.Store c.open_own.new.store)
     (store_of g.S.Store c.load_over.new.store) c.in-Ok.ensures.cause
