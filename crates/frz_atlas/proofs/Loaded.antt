@@ -1,5 +1,5 @@
 -- One table that was opened as its own kind and loaded, and one that was not.
-use Rattle.std.proofs.Common.{◌≡◌, sym, ap, ◌∙◌, ℕ, ◌+◌, ◌*◌, ◌≤◌, List, length, Bool, Some, Ok, IfSome, arith}
+use Rattle.std.proofs.Common.{◌≡◌, sym, ℕ, ◌+◌, ◌*◌, ◌≤◌, List, length, Bool, Some, Ok, IfSome, arith}
 use Rattle.frz_rules.specs.Text.{rules_of}
 use Rattle.frz_sets.specs.Sets.{size_of}
 use Rattle.frz_store.specs.Bytes.{HoldsBytes}

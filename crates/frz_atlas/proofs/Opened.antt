@@ -25,7 +25,7 @@ use Rattle.frz_chain.specs.Books.{Back}
 use Rattle.frz_chain.specs.FileOn.{back_of}
 use Rattle.frz_chain.specs.declared.back.BackTable.{BackTable}
 use Rattle.frz_backs.specs.Links.{Link, value_over}
-use Rattle.frz_backs.specs.Loaded.{leans_as, link_loaded}
+use Rattle.frz_backs.specs.Loaded.{leans_as}
 use Rattle.frz_backs.proofs.Lemmas.{over_small}
 use Rattle.frz_atlas.specs.Behind.{IsJudgedOver, TableBytes, kind_by, kind_held, kind_of, leans, link_of}
 use Rattle.frz_atlas.specs.Costs.{WithinOne, size_held}

@@ -1,8 +1,7 @@
 -- The place of a table that is refused is below the most that stand behind another.
-use Rattle.std.proofs.Common.{◌<◌, ◌≤◌, ℕ, List, [], length, Option, Err, arith}
+use Rattle.std.proofs.Common.{◌<◌, ◌≤◌, ℕ, List, [], length, Option, arith}
 use Rattle.frz_store.specs.Files.{Files}
 use Rattle.frz_store.specs.Told.{StoreTold}
-use Rattle.frz_table.specs.declared.fault.TableFault.{TableFault}
 use Rattle.frz_atlas.specs.Behind.{IsRefusedAt}
 use Rattle.frz_atlas.specs.Held.{MayHoldAll}
 use Rattle.frz_atlas.specs.Loading.{IsOneUnopened, RefusesToLoad}

@@ -1,5 +1,5 @@
 //! The line that refuses one of the tables behind another; it names the table by its place.
-ghost use Rattle.std.specs.Prelude.{◌≡◌, ◌<◌, ◌++◌, codes, decimal};
+ghost use Rattle.std.specs.Prelude.{◌<◌, ◌++◌, decimal};
 ghost use Rattle.frz_store.specs.Told.{sink_of};
 ghost use Rattle.frz_table.specs.declared.fault.TableFault.TheVariants.{Magic, Missing, Rules};
 ghost use Rattle.frz_answer.specs.Texts.{WroteText};

@@ -1,5 +1,5 @@
 -- What the answers of `check` mean.
-use Rattle.std.proofs.Common.{◌≡◌, refl, sym, ap, subst, ◌∙◌, ℕ, List, [], ◌∷◌, Option, Some, IfSome}
+use Rattle.std.proofs.Common.{◌≡◌, refl, sym, ap, subst, ◌∙◌, ℕ, List, [], Option, IfSome}
 use Rattle.std.specs.Prelude.{map}
 use Rattle.frz_board.specs.Boards.{Board}
 use Rattle.frz_board.specs.declared.man.Colour.{Colour}
@@ -27,7 +27,7 @@ use Rattle.frz_answer.specs.declared.status.Status.{Status}
 use Rattle.frz_answer.specs.declared.status.Status.TheVariants as statuses
 use Rattle.frz_answer.specs.Answers.{Answer, says}
 use Rattle.frz_prelude.proofs.Lemmas.{by_table_status}
-use Rattle.frz_atlas.specs.Behind.{AreJudged, TableBytes, backs_in, link_of}
+use Rattle.frz_atlas.specs.Behind.{AreJudged, backs_in, link_of}
 use Rattle.frz_atlas.specs.Checking.{sizes_in}
 use Rattle.frz_atlas.specs.declared.fault.BackFault.{BackFault}
 use Rattle.frz_atlas.specs.declared.fault.BackFault.TheVariants.{Refused, Wrong}
