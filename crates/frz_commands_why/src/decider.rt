@@ -85,7 +85,8 @@ impl Deciding<'_> {
         requires { IsValid q.now }
         ensures { result ≡ words.number_at self.now.numbers.now self.now.rules.now.exits q.now }
     {
-        let place = fitting_line(&self.rules.exits, q)?;
+        let rules = self.rules;
+        let place = fitting_line(&rules.exits, q)?;
         self.numbers.get(place).copied()
     }
 

@@ -1,0 +1,149 @@
+-- What was told of a number, from what was written piece by piece.
+use Rattle.std.proofs.Common.{◌≡◌, ◌≢◌, ℕ, ◌+◌, ◌%◌, ◌<◌, Bool, true, false, ◌&&◌, List, [], ◌++◌, Option, None, Some, Result, Ok, Err, IfOk, IfSome, nat_lt, inl, inr, refl, sym, ap, subst, ◌∙◌, arith}
+use Rattle.std.specs.Prelude.{◌==◌}
+use Rattle.std.proofs.lemmas.Bool.{eq-eqb, lt-ltb, ltb-false, eqb-false, false_from_ne_true}
+use Rattle.frz_board.specs.declared.man.Colour.{Colour}
+use Rattle.frz_board.specs.Boards.{Board}
+use Rattle.frz_board.specs.Moving.{Step}
+use Rattle.frz_fide.specs.Legal.{is_legal}
+use Rattle.frz_fide.proofs.Lemmas.{only_legal}
+use Rattle.frz_sets.specs.declared.exit.Value.{Value}
+use Rattle.frz_sets.specs.Views.{GroupLine, RuleLines}
+use Rattle.frz_store.specs.declared.outside.Failed.{Failed}
+use Rattle.frz_store.specs.Told.{SinkTold}
+use Rattle.frz_arena.specs.Codes.{is_failure, is_win}
+use Rattle.frz_game.specs.Games.{graph_by}
+use Rattle.frz_game.specs.Numbers.{position_at}
+use Rattle.frz_game.specs.declared.wrong.Wrong.{Wrong as WrongEntry}
+use Rattle.frz_answer.specs.declared.end.End.{End}
+use Rattle.frz_answer.specs.declared.end.End.TheVariants.{Done, SinkFault}
+use Rattle.frz_answer.specs.declared.status.Status.{Status}
+use Rattle.frz_answer.specs.Ends.{Said}
+use Rattle.frz_answer.specs.Texts.{FailedWithin, TookText, WroteText}
+use Rattle.frz_answer.proofs.Lemmas.{failed_first, failed_next, took_next, took_nothing, wrote_next}
+use Rattle.frz_prelude.specs.BoundLines.{kept_line}
+use Rattle.frz_reasons.specs.declared.reason.Reason.{Reason}
+use Rattle.frz_reasons.specs.declared.reason.Reason.TheVariants.{Wrong, Mated, Renounced, Left}
+use Rattle.frz_reasons.specs.FailingGames.{EndsAt}
+use Rattle.frz_reasons.specs.LocalEntries.{wrong_at}
+use Rattle.frz_reasons.specs.ReasonTexts.{moves_text}
+use Rattle.frz_reasons.specs.TellingDenials.{TellsDenials}
+use Rattle.frz_reasons.specs.TellingFailures.{TellsFailure}
+use Rattle.frz_commands_why.specs.declared.decider.Decider.{Decider}
+use Rattle.frz_commands_why.specs.Telling.{EndsWhy, TellsBehind, TellsWhy, ToldAt, fails, holds, neither, why_text, wins}
+use Rattle.frz_commands_why.specs.Texts.{LeavesLegally, end_text, status_by, wrong_in, wrong_text}
+
+-- a code that is neither 0, nor that of a hold or of a win, is that of a failure
+odd_code : (c r : ℕ) → c % 2 ≡ r → r < 2 → is_win c ≡ false → c ≢ 0 → r ≡ 1
+odd_code c r e small w zero =
+    let positive : nat_lt 0 c ≡ true = lt-ltb 0 c (omega arith) in
+    let not_even : (c % 2 == 0) ≡ false = by_even (c % 2 == 0) refl in
+    let no = eqb-false (c % 2) 0 not_even in
+    by_rest (λ z. no (e ∙ z))
+  where
+    by_even : (b : Bool) → (c % 2 == 0) ≡ b → b ≡ false
+    by_even false h = refl
+    by_even true h = absurd (zero (zero_of h))
+      where
+        zero_of : (c % 2 == 0) ≡ true → c ≡ 0
+        zero_of k = ?
+    by_rest : (r ≡ 0 → ⊥) → r ≡ 1
+    by_rest n = omega arith
+
+pub left_failing : (c : ℕ) → is_win c ≡ false → c ≢ 1 → c ≢ 0 → is_failure c ≡ true
+left_failing c w one zero = ?
+
+-- the move to an exit is legal
+pub leaves_legally : (rules : RuleLines) (value : Board → Value) (side : Colour) (q : Board)
+    (reason : Reason) → EndsAt rules value side q reason → LeavesLegally rules.groups reason
+leaves_legally rules value side q (Wrong w) ends = tt
+leaves_legally rules value side q Mated ends = tt
+leaves_legally rules value side q Renounced ends = tt
+leaves_legally rules value side q (Left number m v) ends =
+    subst (λ (o : Option Board). IfSome o (λ p. is_legal p m ≡ true)) (sym ends.at)
+    (only_legal ends.from m ends.legal).1
+
+module _ (rules : RuleLines) (value : Board → Value) (side : Colour) (codes : List ℕ)
+    (decider : Board → Decider) (number : ℕ) where
+  abbrev Behind : Result (Option WrongEntry) Failed → SinkTold → SinkTold → Type 0
+  Behind = TellsBehind rules value side codes decider number
+
+  -- the way was written, and then its end
+  pub failure_told : is_failure (slice_index codes number) ≡ true → (reason : Reason)
+      (result : Result (Option WrongEntry) Failed) (old mid new : SinkTold) →
+      TellsFailure (graph_by rules value) side codes number (Ok reason) old mid →
+      WroteText (end_text rules.groups decider reason) result mid new →
+      IfOk result (λ w. w ≡ wrong_in reason) → Behind result old new
+  failure_told failing reason result old mid new way wrote answers = record {
+    text = moves_text way.arms ++ end_text rules.groups decider reason;
+    wrong = wrong_in reason;
+    told = fails failing way.arms reason
+        (subst (λ r. FailsFrom (graph_by rules value) side codes number way.arms r)
+        (sym way.answers) way.way);
+    wrote = wrote_next way.wrote.ok wrote;
+    answers = answers;
+  }
+
+  -- the sink failed within the way
+  pub failure_failed : is_failure (slice_index codes number) ≡ true → (e : Failed)
+      (old new : SinkTold) →
+      TellsFailure (graph_by rules value) side codes number (Err e) old new →
+      Behind (Err e) old new
+  failure_failed failing e old new way = record {
+    text = moves_text way.arms ++ end_text rules.groups decider way.reason;
+    wrong = wrong_in way.reason;
+    told = fails failing way.arms way.reason way.way;
+    wrote = record {
+      ok = tt;
+      failed = failed_first (end_text rules.groups decider way.reason) way.wrote.failed;
+    };
+    answers = tt;
+  }
+
+  pub win_told : is_win (slice_index codes number) ≡ true → (out : SinkTold) →
+      Behind (Ok None) out out
+  win_told win out = record {
+    text = [];
+    wrong = None;
+    told = wins win;
+    wrote = record { ok = took_nothing out; failed = tt };
+    answers = refl;
+  }
+
+  pub hold_told : slice_index codes number ≡ 1 → (result : Result (Option WrongEntry) Failed)
+      (old new : SinkTold) → TellsDenials (graph_by rules value) side codes number result old new →
+      Behind result old new
+  hold_told hold result old new h = record {
+    text = denials_text h.denials;
+    wrong = h.wrong;
+    told = holds hold h.denials h.wrong h.denied;
+    wrote = h.wrote;
+    answers = h.answers;
+  }
+
+  pub broken_told : slice_index codes number ≡ 0 → (wrong : WrongEntry) →
+      wrong ≡ wrong_at (graph_by rules value) side codes number → (out : SinkTold) →
+      Behind (Ok (Some wrong)) out out
+  broken_told zero wrong is out = record {
+    text = [];
+    wrong = Some (wrong_at (graph_by rules value) side codes number);
+    told = neither zero;
+    wrote = record { ok = took_nothing out; failed = tt };
+    answers = ap (λ (w : WrongEntry). Some w) is;
+  }
+
+  abbrev code : ℕ
+  code = slice_index codes number
+
+  -- the line of the bound, what stands behind it, and a wrong entry
+  pub all_told : (wrong : Option WrongEntry) (result : Result Status Failed)
+      (old first second new : SinkTold) → TookText (kept_line side code) old first →
+      Behind (Ok wrong) first second → TookText (wrong_text wrong) second new →
+      TellsWhy rules value side codes decider number (Ok (status_by wrong)) old new
+  all_told wrong result old first second new bound h last = record {
+    text = h.text;
+    wrong = wrong;
+    told = subst (λ w. ToldAt rules value side codes decider number h.text w) (sym h.answers) h.told;
+    wrote = record { ok = took_next bound (took_next h.wrote.ok last); failed = tt };
+    answers = refl;
+  }
