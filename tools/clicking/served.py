@@ -18,19 +18,6 @@ exec '{program}' "$@"
 """
 
 
-class Checks:
-    """Counts what was seen, and says what was not as it should be."""
-
-    def __init__(self):
-        self.passed = self.failed = 0
-
-    def see(self, what, holds):
-        self.passed += bool(holds)
-        self.failed += not holds
-        if not holds:
-            print(f"FAILED: {what}")
-
-
 class Programs:
     """The programs, and those in a folder that write down each call before they answer."""
 
