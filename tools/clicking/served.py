@@ -13,7 +13,7 @@ EXAMPLES = os.path.join(os.path.dirname(TOOLS), "examples")
 # Writes down its words, waits where it shall be slow, and asks the program.
 COUNTED = """#!/bin/sh
 echo "$*" >> '{folder}/calls'
-[ ! -e '{folder}/slow' ] || [ "$1" != report ] || sleep 100
+[ ! -e '{folder}/slow' ] || case "$1" in report | premises) sleep 100 ;; esac
 exec '{program}' "$@"
 """
 
