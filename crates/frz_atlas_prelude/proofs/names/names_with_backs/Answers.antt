@@ -5,6 +5,6 @@ use Rattle.frz_atlas_prelude.proofs.names.names_with_backs.Goals as goal
 pub returns-in-None-clause-refused : goal.returns-in-None-clause-refused
 returns-in-None-clause-refused c = not_so_many (sym c.in-None.ensures)
 
-pub returns-in-Some-clause-refused : goal.returns-in-Some-clause-refused
-returns-in-Some-clause-refused c =
-    same _ (sym c.in-Some.ensures) (sym c.has_twice.ensures ∙ c.if-has_twice.true)
+pub returns-in-Some-2-clause-refused : goal.returns-in-Some-2-clause-refused
+returns-in-Some-2-clause-refused c =
+    same _ (sym c.in-Some.ensures) (sym c.has_twice.ensures ∙ c.if-not-has_twice.false)
