@@ -4,6 +4,7 @@ use Rattle.frz_board.specs.Boards.{Board}
 use Rattle.frz_index.specs.Members.{Member}
 use Rattle.frz_store.specs.Told.{SinkTold, SourceTold, StoreFine, StoreQuiet, StoreTold}
 use Rattle.frz_table.specs.Opening.{contents_of}
+use Rattle.frz_chain.specs.declared.back.BackTable.{BackTable}
 use Rattle.frz_backs.specs.Loaded.{link_loaded}
 use Rattle.frz_atlas.specs.Behind.{TableBytes, link_of}
 use Rattle.frz_atlas.specs.Held.{all_held}
@@ -57,12 +58,12 @@ near_wrong place (Err plays.Input) near = tt
 near_wrong place (Err (plays.Limit limit)) near = tt
 
 -- what a journey wrote and took of the input that it was played against
-abbrev pub WroteJourney : Player → LoadedAtlas → Board → Arrival → (told left : SourceTold) →
-    (out mid : SinkTold) → (before now : ℕ) → Type 0
-WroteJourney player given p arrival told left out mid before now =
+abbrev pub WroteJourney : Player → LoadedAtlas → List BackTable → Board → Arrival →
+    (told left : SourceTold) → (out mid : SinkTold) → (before now : ℕ) → Type 0
+WroteJourney player given backs p arrival told left out mid before now =
     (text : List ℕ) × (took : List ℕ) × (whole : List ℕ) × IsLines text
     × WroteBy arrival.answer text out mid × TookBytes took told left × MayHold told whole
-    × TellsJourney player.opponent player.side (map link_loaded given.backs.items)
+    × TellsJourney player.opponent player.side (map link_loaded backs)
     (link_loaded given.table) p whole took text arrival before now
 
 module _ (there : JourneyThere) (player : Player) (table : List ℕ) (behind : List (List ℕ))
@@ -71,10 +72,14 @@ module _ (there : JourneyThere) (player : Player) (table : List ℕ) (behind : L
     (told left : SourceTold) (out mid : SinkTold) (before now : ℕ) (arrival : Arrival)
     (outside : (arrival.answer ≡ Err (plays.Line faults.Outside))
     ↔ (Member given.table.table.rules.groups p → ⊥))
-    (w : WroteJourney player given p arrival told left out mid before now) where
+    (backs : List BackTable) (same_backs : backs ≡ given.backs.items)
+    (w : WroteJourney player given backs p arrival told left out mid before now) where
   abbrev tells : TellsJourney player.opponent player.side (map link_of l.tables)
       (leaning (contents_of given.table.table) l.bytes) p w.2 w.1 w.0 arrival before now
-  tells = told_by_files given l player p w.2 w.1 w.0 arrival before now w.7
+  tells =
+      told_by_files given l player p w.2 w.1 w.0 arrival before now
+      (subst (λ (b : List BackTable). TellsJourney player.opponent player.side (map link_loaded b)
+      (link_loaded given.table) p w.2 w.1 w.0 arrival before now) same_backs w.7)
 
   few_links : length (map link_of l.tables) ≤ MOST_BACKS
   few_links =

@@ -5,10 +5,14 @@ use Rattle.frz_answer.specs.declared.end.End.{End}
 use Rattle.frz_answer.specs.Statuses.{subset}
 use Rattle.frz_answer.specs.World.{World, Agrees, Came, spent}
 use Rattle.frz_answer.specs.Answers.{Answer, behind, IsLines}
-use Rattle.frz_answer.specs.Jobs.{Job}
+use Rattle.frz_answer.specs.Jobs.{Job, Never, Once, Reads}
 use Rattle.frz_answer.specs.Ends.{Ran}
 use Rattle.frz_answer.proofs.Lemmas.{Found, follows}
 use Rattle.frz_commands_line.proofs.Lemmas.{is_part, rest_after}
+
+-- what is read is looked at
+pub once_is_not : {A : Type 0} → ◌≡◌ {A = Reads} Once Never → A
+once_is_not e = cc
 
 -- files and an input that begins with these bytes
 pub record Splits (job : Job) (bytes : List ℕ) (files : Files) (input : List ℕ)

@@ -98,3 +98,8 @@ pub untaken : (opponent : Opponent) (heard free : List ℕ) → takes_input oppo
     → chosen opponent heard free ≡ free
 untaken Codes heard free e = refl
 untaken Input heard free e = cc
+
+-- who takes no input plays a line
+pub takes_none : (opponent : Opponent) → takes_input opponent ≡ false → opponent ≡ Codes
+takes_none Codes e = refl
+takes_none Input e = cc

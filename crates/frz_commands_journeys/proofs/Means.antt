@@ -211,6 +211,17 @@ module _ (opponent : Opponent) (side : Colour) (answer : Result WayEnd PlayFault
     alone before table stage None e k = never table stage e k
     alone before table stage (Some n) e k = k
 
+    later_last : (before : List Link) (table : Link) (stage : Stage) (start : Board) (mid : Input)
+        (stages : List Stage) (left : Input) → (stages ≡ [] → ⊥) → (next : Option (ℕ × Link))
+        → ((n : ℕ × Link) → IsJourney opponent side (take n.0 before) n.1 (Behind n.0)
+        (after_plies start stage.plies) mid stages left → AtLast P (take n.0 before) n.1 stages → ⊥)
+        → MatchOption next ((stages ≡ []) × (left ≡ mid))
+        (λ n. IsJourney opponent side (take n.0 before) n.1 (Behind n.0)
+        (after_plies start stage.plies) mid stages left)
+        → LastBy before table stage stages next → ⊥
+    later_last before table stage start mid stages left some None later j k = some j.0
+    later_last before table stage start mid stages left some (Some n) later j k = later n j k
+
     never_last : (before : List Link) (table : Link) (at : Place) (start : Board) (input : Input)
         (stages : List Stage) (left : Input)
         → IsJourney opponent side before table at start input stages left → (place : Place)
@@ -219,19 +230,13 @@ module _ (opponent : Opponent) (side : Colour) (answer : Result WayEnd PlayFault
     never_last before table at start input (stage ∷ []) left j place h k =
         alone before table stage (onward before table stage.start stage.plies stage.end) h.1 k
     never_last before table at start input (stage ∷ next ∷ stages) left j place h k =
-        by_next (onward before table start stage.plies stage.end) j.2
+        later_last before table stage start j.0 (next ∷ stages) left (λ e. cc)
+        (onward before table start stage.plies stage.end)
+        (λ n f m. never_last (take n.0 before) n.1 (Behind n.0) (after_plies start stage.plies) j.0
+        (next ∷ stages) left f place h m)
+        j.2
         (subst (λ (b : Board). LastBy before table stage (next ∷ stages)
         (onward before table b stage.plies stage.end)) j.1.from k)
-      where
-        by_next : (o : Option (ℕ × Link))
-            → MatchOption o (((next ∷ stages) ≡ []) × (left ≡ j.0))
-            (λ n. IsJourney opponent side (take n.0 before) n.1 (Behind n.0)
-            (after_plies start stage.plies) j.0 (next ∷ stages) left)
-            → LastBy before table stage (next ∷ stages) o → ⊥
-        by_next None f m = let none = f.0 in cc
-        by_next (Some n) f m =
-            never_last (take n.0 before) n.1 (Behind n.0) (after_plies start stage.plies) j.0
-            (next ∷ stages) left f place h m
 
 -- only a session comes to a limit
 limit_session : (opponent : Opponent) (side : Colour) (before : List Link) (table : Link)
@@ -352,7 +357,7 @@ module _ (laws : JourneyLaws) (player : Player) (table : List ℕ) (behind : Lis
             says;
       }
 
-      arrives_so : (answer : Result WayEnd PlayFault) → h.answer ≡ answer
+      abbrev arrives_so : (answer : Result WayEnd PlayFault) → h.answer ≡ answer
           → ArrivesSo has a.text answer
       arrives_so answer is = record {
         place = h.place;

@@ -57,7 +57,7 @@ use Rattle.frz_commands_journeys.specs.Costs.{CostsAt, StepsBy, journey_costs}
 use Rattle.frz_commands_journeys.specs.Endings.{EndsJourney, answer_status, naming}
 use Rattle.frz_commands_journeys.specs.JourneyOf.{IsJourneyBy, IsPlayed, IsPlayedAt, IsPlayedBy, IsPlayedOver, heard_by, journey_answer, leaning, played_text}
 use Rattle.frz_commands_journeys.specs.Journeying.{journeying_at, statuses_of, takes_input}
-use Rattle.frz_commands_journeys.proofs.Behind.{after_lines}
+use Rattle.frz_commands_journeys.proofs.Behind.{after_lines, once_is_not}
 use Rattle.frz_commands_journeys.proofs.Heard.{Hears, chosen, heard_whole, may_rest, may_whole, none_taken, split_there, untaken}
 use Rattle.frz_commands_journeys.proofs.Texts.{SomeArrival, arrival_of, fault_said, short_said, some_stages}
 
@@ -288,7 +288,7 @@ module _ (player : Player) (table : List ℕ) (behind_it : List (List ℕ)) (p :
           → heard_by player.opponent (took ++ chosen player.opponent left_over free) ≡ whole
       heard_behind free = ap (heard_by player.opponent) (split_here free) ∙ heard_first free
 
-      found_first : (m : Files) (free : List ℕ) → Agrees old m free → Found job m free old
+      abbrev found_first : (m : Files) (free : List ℕ) → Agrees old m free → Found job m free old
       found_first m free agrees = record {
         files = files;
         input = chosen player.opponent whole free;
@@ -297,11 +297,11 @@ module _ (player : Player) (table : List ℕ) (behind_it : List (List ℕ)) (p :
           source = may_whole whole took left_over answer source gone player.opponent heard free
               agrees.source;
         };
-        free = λ never. cc;
+        free = λ never. once_is_not never;
         untaken = untaken player.opponent whole free;
       }
 
-      found_behind : (m : Files) (free : List ℕ) → Agrees between m free
+      abbrev found_behind : (m : Files) (free : List ℕ) → Agrees between m free
           → Found (rest_after job text took) m free between
       found_behind m free agrees = record {
         files = files;
@@ -311,7 +311,7 @@ module _ (player : Player) (table : List ℕ) (behind_it : List (List ℕ)) (p :
           source = may_rest whole took left_over answer source gone player.opponent heard so.takes
               free agrees.source;
         };
-        free = λ never. cc;
+        free = λ never. once_is_not never;
         untaken = untaken player.opponent left_over free;
       }
 

@@ -1,5 +1,6 @@
 -- A line has no input that could stop it.
 use Rattle.std.proofs.Common.{◌≡◌, ◌==◌, ◌&&◌, refl, sym, subst, ap, ◌∙◌, ℕ, suc, Bool, true, false, List, [], ◌∷◌, take, Option, Some, None, Result, Ok, Err, inl, inr, if◌then◌else◌}
+use Rattle.std.specs.Prelude.{MatchOption}
 use Rattle.frz_board.specs.Boards.{Board}
 use Rattle.frz_board.specs.Men.{same_colour}
 use Rattle.frz_board.specs.Moving.{Step}
@@ -14,7 +15,7 @@ use Rattle.frz_arena.specs.Codes.{is_failure}
 use Rattle.frz_arena.specs.LocalCodes.{local_code}
 use Rattle.frz_arena.specs.Plies.{LeadsTo}
 use Rattle.frz_arena.specs.WayEnds.{Wrong, NoBound, Mated, Stalemated, Exit, Cut, Stopped}
-use Rattle.frz_arena.specs.Ways.{Over, Moves, is_cut, stage, stage_of, IsStopBy, IsWay}
+use Rattle.frz_arena.specs.Ways.{Stage as Due, Over, Moves, is_cut, stage as due_at, stage_of, IsStopBy, IsWay}
 use Rattle.frz_backs.specs.Links.{Link}
 use Rattle.frz_ways.specs.declared.opponent.Opponent.TheVariants.{Codes}
 use Rattle.frz_ways.specs.declared.session_end.PlayFault.{PlayFault}
@@ -33,8 +34,8 @@ use Rattle.frz_journeys.specs.Tables.{arena_over, codes_of}
 
 module _ (arena : Arena Step ℕ Value) (side : Colour) (codes : ℕ → List ℕ) (halt : Halt) where
   by_cut : (cut : Bool) (mover : Colour)
-      → (if cut then Over {N = ℕ × ℕ} {V = Value} {R = Halt} Cut else Moves mover)
-      ≡ Over (Stopped halt) → ⊥
+      → ◌≡◌ {A = Due (ℕ × ℕ) Value Halt} (if cut then Over Cut else Moves mover)
+      (Over (Stopped halt)) → ⊥
   by_cut true mover e = cc
   by_cut false mover e = cc
 
@@ -56,7 +57,7 @@ module _ (arena : Arena Step ℕ Value) (side : Colour) (codes : ℕ → List �
   by_tests false starts k p kept given node e = cc
 
   stage_goes : (k : ℕ) (p : ℕ × ℕ)
-      → stage (way_player arena Codes side codes) k p ≡ Over (Stopped halt) → ⊥
+      → due_at (way_player arena Codes side codes) k p ≡ Over (Stopped halt) → ⊥
   stage_goes k p e =
       let player = way_player arena Codes side codes in
       let given = local_code player.arena side player.entry p in
@@ -98,10 +99,18 @@ no_limit side limit (Stopped halt) never e = never halt refl
 
 module _ (side : Colour) (limit : PlayLimit) where
   abbrev Follows : List Link → Stage → Board → Input → List Stage → Input → Option (ℕ × Link) → Type 0
-  Follows before stage start mid stages left None = (stages ≡ []) × (left ≡ mid)
-  Follows before stage start mid stages left (Some next) =
-      IsJourney Codes side (take next.0 before) next.1 (Behind next.0)
-      (after_plies start stage.plies) mid stages left
+  Follows before stage start mid stages left next =
+      MatchOption next ((stages ≡ []) × (left ≡ mid))
+      (λ n. IsJourney Codes side (take n.0 before) n.1 (Behind n.0)
+      (after_plies start stage.plies) mid stages left)
+
+  later_limited : (before : List Link) (stage : Stage) (start : Board) (mid : Input)
+      (stages : List Stage) (left : Input) → (stages ≡ [] → ⊥) → (next : Option (ℕ × Link))
+      → ((n : ℕ × Link) → IsJourney Codes side (take n.0 before) n.1 (Behind n.0)
+      (after_plies start stage.plies) mid stages left → ⊥)
+      → Follows before stage start mid stages left next → ⊥
+  later_limited before stage start mid stages left some None later h = some h.0
+  later_limited before stage start mid stages left some (Some n) later h = later n h
 
   -- a line arrives at no limit
   pub never_limited : (before : List Link) (table : Link) (place : Place) (start : Board)
@@ -117,11 +126,8 @@ module _ (side : Colour) (limit : PlayLimit) where
       (way_player (arena_over before table) Codes side (λ k. codes_of side table)) 0 input
       (0, stage.number) stage.plies end j.0) e j.1.way)) h.1
   never_limited before table place start input (stage ∷ next ∷ stages) left j at h =
-      behind (onward before table start stage.plies stage.end) j.2
-    where
-      behind : (o : Option (ℕ × Link))
-          → Follows before stage start j.0 (next ∷ stages) left o → ⊥
-      behind None k = let none = k.0 in cc
-      behind (Some n) k =
-          never_limited (take n.0 before) n.1 (Behind n.0) (after_plies start stage.plies) j.0
-          (next ∷ stages) left k at h
+      later_limited before stage start j.0 (next ∷ stages) left (λ e. cc)
+      (onward before table start stage.plies stage.end)
+      (λ n k. never_limited (take n.0 before) n.1 (Behind n.0) (after_plies start stage.plies) j.0
+      (next ∷ stages) left k at h)
+      j.2

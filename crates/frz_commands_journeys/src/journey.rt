@@ -55,6 +55,7 @@ fn play_at<S: Store, I: Source, O: Sink, L: Ledger>(
         (world (store_of S.Store store.new)
         (input_with player.opponent (source_of I.Source input.new) other)
         (sink_of O.Sink out.new) steps.new) }
+    ensures unread { player.opponent ≡ opponents.Codes → input.new ≡ input.old }
 {
     one_journey();
     match load_atlas(alloc, store, names.table, names.behind) {

@@ -14,10 +14,11 @@ end_of_journey-requires g c =
     let j = c.play_journey-arrival.ensures in
     arrived_near c.one_journey.ensures.there c.args.player names.table.now
     (map string_bytes names.behind.now) c.args.p.now c.requires.few _ _ c.in-Ok.loaded
-    c.in-Ok.ensures.loaded _ _ _ _ _ _ c.play_journey-arrival.result j.outside j.played
+    c.in-Ok.ensures.loaded _ _ _ _ _ _ c.play_journey-arrival.result j.outside _
+    c.deref.ensures.value j.played
 
-pub returns-in-Ok : goal.returns-in-Ok
-returns-in-Ok g c = λ other.
+pub returns-in-Ok-clause-ran : goal.returns-in-Ok-clause-ran
+returns-in-Ok-clause-ran g c = λ other.
     let names = c.args.names.now in
     let l = c.in-Ok.ensures in
     let j = c.play_journey-arrival.ensures in
@@ -27,7 +28,8 @@ returns-in-Ok g c = λ other.
     (source_of g.I.Source c.args.input.now)
     (source_of g.I.Source c.play_journey-arrival.new.input) (sink_of g.O.Sink c.args.out.now)
     (sink_of g.O.Sink c.play_journey-arrival.new.out) c.args.steps.now
-    c.play_journey-arrival.new.steps c.play_journey-arrival.result j.outside j.played
+    c.play_journey-arrival.new.steps c.play_journey-arrival.result j.outside _
+    c.deref.ensures.value j.played
     c.requires.apart l.quiet l.cause j.later c.requires.silent
     (λ is.
     let same = j.untouched is in
@@ -39,8 +41,8 @@ end_at-requires g c =
     small_unread (map string_bytes c.args.names.now.behind.now) c.requires.few _ _ c.in-Err.fault
     c.args.names.now.table.now c.in-Err.ensures.refused
 
-pub returns-in-Err : goal.returns-in-Err
-returns-in-Err g c = λ other.
+pub returns-in-Err-clause-ran : goal.returns-in-Err-clause-ran
+returns-in-Err-clause-ran g c = λ other.
     let names = c.args.names.now in
     let e = c.in-Err.ensures in
     unread_ran c.one_journey.ensures.there c.args.player names.table.now
