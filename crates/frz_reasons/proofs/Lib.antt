@@ -9,3 +9,5 @@ mod GamesOfChess
 mod PlaceFacts
 mod Telling
 mod Turned
+mod Denied
+mod DeniedAt
