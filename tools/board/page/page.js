@@ -222,7 +222,7 @@ function listen() {
     event.preventDefault();
     open(at("fen").value.trim());
   });
-  at("copy").addEventListener("click", () => navigator.clipboard.writeText(state.position.fen));
+  at("copy").addEventListener("click", () => navigator.clipboard.writeText(state.position.fen).catch(() => at("fen").select()));
   at("flip").addEventListener("click", flip);
   at("back").addEventListener("click", () => go(state.going - 1));
   at("forth").addEventListener("click", () => go(state.going + 1));
