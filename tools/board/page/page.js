@@ -92,6 +92,7 @@ function arrive(position, game, place) {
   refuse(position.refused ?? "");
   if (position.refused !== undefined) {
     state.going = state.place;
+    playOn(false);
     return;
   }
   game[place].turn = position.turn;
