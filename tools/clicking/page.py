@@ -7,12 +7,14 @@ import time
 
 sys.path.append("/usr/lib/python3/dist-packages")  # Debian's, where another Python comes first
 from selenium import webdriver
+from selenium.common.exceptions import SessionNotCreatedException
 from selenium.webdriver.chrome.service import Service
 from selenium.webdriver.common.action_chains import ActionChains
 from selenium.webdriver.common.actions.action_builder import ActionBuilder
 from selenium.webdriver.common.by import By
 from selenium.webdriver.common.keys import Keys
 
+TRIES = 3
 PATIENCE = float(os.environ.get("CLICK_PATIENCE", "20"))  # seconds
 OPTIONS = ("--headless=new", "--no-sandbox", "--window-size=1280,900", "--hide-scrollbars")
 # The words that a copy with nothing marked puts down, and a paste of these.
@@ -40,6 +42,16 @@ for (const e of document.querySelectorAll("h1, h2, p, span, button, summary, pre
 return least.ratio;"""
 
 
+def driver_of(options):
+    """A browser that has begun. On a busy machine its driver may lose patience with it, so it is tried again."""
+    for _ in range(TRIES - 1):
+        try:
+            return webdriver.Chrome(service=Service(shutil.which("chromedriver")), options=options)
+        except SessionNotCreatedException:
+            time.sleep(1)
+    return webdriver.Chrome(service=Service(shutil.which("chromedriver")), options=options)
+
+
 class Page:
     """The page in a browser without a window."""
 
@@ -47,7 +59,7 @@ class Page:
         options = webdriver.ChromeOptions()
         for word in (*OPTIONS, f"--user-data-dir={folder}/browser"):
             options.add_argument(word)
-        self.driver = webdriver.Chrome(service=Service(shutil.which("chromedriver")), options=options)
+        self.driver = driver_of(options)
         self.driver.get(address)
 
     def find(self, selector):

@@ -34,8 +34,8 @@ class Program:
         return self.run(*words) != (2, "words: command\n")
 
 
-def arguments(about, program="freezer", files=None, **numbers):
-    """The options that each tool takes, and whole numbers of its own with their defaults.
+def arguments(about, program="freezer", files=None, **further):
+    """The options that each tool takes, and whole numbers and words of its own with their defaults.
 
     A tool that calls no program has none, and one that takes files has a word for them.
     """
@@ -47,8 +47,8 @@ def arguments(about, program="freezer", files=None, **numbers):
     if files:
         parser.add_argument("files", nargs="*", metavar=files)
     parser.add_argument("--seed", type=int, default=1, help="one seed gives the same questions")
-    for name, default in numbers.items():
-        parser.add_argument(f"--{name}", type=int, default=default)
+    for name, default in further.items():
+        parser.add_argument(f"--{name}", type=type(default), default=default)
     return parser.parse_args()
 
 

@@ -92,6 +92,7 @@ function arrive(position, game, place) {
   refuse(position.refused ?? "");
   if (position.refused !== undefined) {
     state.going = state.place;
+    playOn(false);
     return;
   }
   game[place].turn = position.turn;
@@ -222,7 +223,7 @@ function listen() {
     event.preventDefault();
     open(at("fen").value.trim());
   });
-  at("copy").addEventListener("click", () => navigator.clipboard.writeText(state.position.fen));
+  at("copy").addEventListener("click", () => navigator.clipboard.writeText(state.position.fen).catch(() => at("fen").select()));
   at("flip").addEventListener("click", flip);
   at("back").addEventListener("click", () => go(state.going - 1));
   at("forth").addEventListener("click", () => go(state.going + 1));

@@ -28,5 +28,8 @@ export function clearMarks() {
 // Points at the line by which a way ended, or at none.
 export function pointAt(place, line) {
   for (const other of document.querySelectorAll(".rule.culprit")) other.classList.remove("culprit");
-  lineAt(place, line)?.classList.add("culprit");
+  const found = lineAt(place, line);
+  if (!found) return;
+  found.classList.add("culprit");
+  found.closest("details").open = true;
 }
