@@ -10,10 +10,11 @@ to_check=900
 # One of the long commands is given, and somebody sees what is told.
 is_watched() {
     [ -t 2 ] && [ -z "${FREEZER_QUIET+set}" ] && [ "${TERM:-dumb}" != dumb ] || return 1
-    [ "$crate" = freezer ] || [ "${#reads[@]}" -lt 2 ] || return 0
     case "$crate ${words[0]-}/${#words[@]}" in
         freezer\ build/3 | freezer\ check/2 | freezer\ chain/4 | freezer\ chaincheck/3) ;;
-        *) return 1 ;;
+        atlas\ play/*) return 1 ;; # a session would be written over
+        atlas\ premises/*) [ "${#reads[@]}" -gt 0 ] ;;
+        *) [ "$crate" = atlas ] && [ "${#reads[@]}" -gt 1 ] ;;
     esac
 }
 
@@ -40,6 +41,9 @@ how_far() {
     case "${words[0]}" in
         check) told_of "$(numbers_of "${words[1]}")" "checking$(it_and_those_behind)" ;;
         chaincheck) told_of "$(numbers_of "${words[1]}")" "checking it and the table behind" ;;
+        report) told_of "$(numbers_of "${words[1]}")" "going over it, with the tables behind" ;;
+        line | why) told_of "$(numbers_of "${words[1]}")" "reading it and the tables behind" ;;
+        premises) tell_premises ;;
         *)
             numbers=$(numbers_of "$1")
             if [ -n "$numbers" ]; then
@@ -53,6 +57,15 @@ how_far() {
             fi
             ;;
     esac
+}
+
+# The rules have no table, so their set has no number here.
+tell_premises() {
+    if [ "${#reads[@]}" -gt 1 ]; then
+        told_of "$(numbers_behind)" "checking the tables behind and the exits"
+    else
+        echo "going over the exits"
+    fi
 }
 
 it_and_those_behind() { [ "$crate" != atlas ] || echo " it and the tables behind"; }
@@ -75,7 +88,7 @@ side_of() {
 
 # The time that the sets' numbers let expect.
 of_expected() {
-    local numbers back time
+    local numbers="" back time
     case "${words[0]}" in
         build) numbers=$(numbers_of "$1") back=$(numbers_behind)
             time=$((${numbers:-0} * to_build + ${back:-0} * to_check)) ;;

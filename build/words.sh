@@ -21,15 +21,28 @@ find_names() {
 # The most tables behind another.
 most_backs=16
 
+# Sets `reads` to the place of the first name and those of the tables behind, which are all words from
+# the place $2 on, where these are so many: $3 at least.
+find_tables_behind() {
+    local backs=$(($1 - $2))
+    [ "$backs" -lt "$3" ] || [ "$backs" -gt "$most_backs" ] || mapfile -t reads < <(echo 1 && seq "$2" $(($1 - 1)))
+}
+
+# A word that is no side is refused before any name is looked at.
 find_names_of_atlas() {
     case "${1-}" in
-        build) [ $# -lt 4 ] || [ $# -gt $((3 + most_backs)) ] || mapfile -t reads < <(echo 1 && seq 3 $(($# - 1))) ;;
-        check | report) [ $# -lt 3 ] || [ $# -gt $((2 + most_backs)) ] || mapfile -t reads < <(seq 1 $(($# - 1))) ;;
+        build) find_tables_behind $# 3 1 ;;
+        check | report) find_tables_behind $# 2 1 ;;
+        premises) find_tables_behind $# 2 0 ;;
+        line | play) ! is_side "${4-}" || find_tables_behind $# 4 1 ;;
+        why) ! is_side "${4-}" || find_tables_behind $# 4 0 ;;
         query | each) [ $# -ne 3 ] || reads=(1) ;;
         size) [ $# -ne 2 ] || reads=(1) ;;
     esac
     [ "${1-}" != build ] || [ "${#reads[@]}" -eq 0 ] || makes=2
 }
+
+is_side() { [ "$1" = white ] || [ "$1" = black ]; }
 
 # Two names are of one file.
 is_one_file() { [[ ${words[$1]} = "${words[$2]}" || ${words[$1]} -ef ${words[$2]} ]]; }

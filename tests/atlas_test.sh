@@ -42,6 +42,13 @@ test_no_file_stands_twice_among_the_names_of_atlas() {
     refused_by_atlas check one two link
     refused_by_atlas check one ./one
     refused_by_atlas report one two link
+    refused_by_atlas line one FEN white ./one
+    refused_by_atlas line one FEN black two link
+    refused_by_atlas play one FEN white two two
+    refused_by_atlas why one FEN white link
+    refused_by_atlas why one FEN black two ./two
+    refused_by_atlas premises A ./A
+    refused_by_atlas premises A one two link
     is "$(cat "$FAKE_LOG")" "" "checks: the program is not built for this"
 }
 
@@ -52,6 +59,29 @@ test_words_of_atlas_that_are_too_few_or_too_many_are_the_program_s() {
     is "$status $out" "2 counted" "the answer with no table behind"
     run "$toy/atlas" build A A 1 2 3 4 5 6 7 8 9 10 11 12 13 14 15 16 17
     is "$status $out" "2 counted" "the answer with seventeen"
+}
+
+# The words that name no file are the program's, and so are those behind a side that is none.
+test_names_that_are_none_are_the_program_s() {
+    local words
+    make_built_toy_of_two
+    echo one > one
+    echo 'echo told; exit 4' > A
+    for words in 'line one one white two' 'line one one blue one' 'play one white white two' 'line one FEN white'; do
+        # shellcheck disable=SC2086 # several words
+        run "$toy/atlas" $words
+        is "$status $out" "7 ${words// /$'\n'}" "the answer to $words"
+    done
+    for words in 'why A FEN' 'why A A white' 'why A FEN blue A' 'why A FEN white one' premises\ A 'premises A one'; do
+        # shellcheck disable=SC2086
+        run "$toy/atlas" $words
+        is "$status $out" "4 told" "the answer to $words"
+    done
+    for words in 'premises A' 'why A FEN white'; do
+        # shellcheck disable=SC2086
+        run "$toy/atlas" $words A 2 3 4 5 6 7 8 9 10 11 12 13 14 15 16 17
+        is "$status $out" "4 told" "the answer to $words with seventeen"
+    done
 }
 
 test_atlas_replaces_a_table_by_a_whole_one() {
@@ -78,4 +108,33 @@ test_atlas_tells_of_the_tables_behind() {
     printf '#\nsleep 2; echo "exact"\n' > check_me
     out=$(FREEZER_EVERY=0.2 "$repository/tests/terminal" "" 0 "$toy/atlas" check check_me one)
     has "$out" "checking it and the tables behind, 0:0"
+}
+
+tells() {
+    echo "echo; sleep 2; echo told" > "$1"
+    out=$(FREEZER_EVERY=0.2 "$repository/tests/terminal" "" 0 "$toy/atlas" "${@:3}")
+    has "$out" "atlas: $2, 0:0"
+    has "$out" told
+    has_not "$out" "unbound"
+}
+
+test_atlas_tells_of_what_it_reads() {
+    make_built_toy_of_two
+    printf 'FREEZER2\0\0\0\0\0\0\0\4' > one
+    tells table "reading it and the tables behind" why table FEN white one
+    tells table "going over it, with the tables behind" report table one
+    tells A "going over the exits" premises A
+    tells A "67108864 numbers: checking the tables behind and the exits" premises A one
+    # shellcheck source=/dev/null
+    . "$toy/build/watch.sh"
+    crate=atlas words=(line one FEN white two)
+    is "$(how_far "")$(of_expected "")" "67108864 numbers: reading it and the tables behind" "that of a line"
+}
+
+test_atlas_tells_nothing_in_a_session() {
+    make_built_toy_of_two
+    out=$(FREEZER_EVERY=0.2 "$repository/tests/terminal" $'\004' 1 "$toy/atlas" play table FEN white one)
+    has "$out" $'play\r\ntable\r\nFEN\r\nwhite\r\none\r\n'
+    has "$out" "status 7"
+    has_not "$out" "atlas:"
 }

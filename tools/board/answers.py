@@ -1,15 +1,16 @@
-"""What the page asks about: a position with its moves, a line, a report. Each fact in it is an answer of
-`freezer` or of `atlas`."""
+"""What the page asks about: a position with its moves, a way from it, a report, premises. Each fact in it is
+an answer of `freezer` or of `atlas`."""
 
 from .bounds import read_bound, read_bounds
-from .head import PLAIN, NoTable
+from .head import NoTable
 from .listing import Listing
-from .report import Report, words_of
+from .premises import Premises
+from .report import Report
 from .start import first_positions
+from .walks import Walks
 
 ENDS = ("mate", "stalemate")
 LONGEST_WORD = 200
-NO_LINE = "best lines are told of tables of freezer build alone"
 
 
 class Answers:
@@ -19,22 +20,39 @@ class Answers:
         self.calls = calls
         self.tables = tables
         self.listing = Listing(calls, tables)
-        self.report = Report(calls, words_of(tables.heads))
+        self.walks = Walks(calls, tables, self.listing)
+        self.courses = {}
+        self.begin_courses()
+
+    def begin_courses(self):
+        """A report and premises that have not begun, in place of others."""
+        for course in self.courses.values():
+            course.stop()
+        self.courses = {
+            "report": Report(self.calls, self.tables),
+            "premises": Premises(self.calls, self.tables),
+        }
 
     def refresh(self):
         """Begins anew where a file was written anew; what is wrong with it then, or nothing."""
         try:
             if self.tables.refresh():
-                self.report.stop()
-                self.report = Report(self.calls, words_of(self.tables.heads))
+                self.begin_courses()
         except NoTable as why:
             return str(why)
         return None
 
+    def course(self, name, order):
+        """What is told of a course, after it was begun or stopped where this is the order."""
+        course = self.courses[name]
+        if order:
+            getattr(course, order)()
+        return course.shown()
+
     def shown(self):
         """What the page is told of the tables."""
         return {
-            "tables": [head.shown() for head in self.tables.heads],
+            "tables": self.tables.shown(),
             "age": self.tables.age,
             "start": self.start(),
         }
@@ -77,27 +95,6 @@ class Answers:
             "bounds": [bound_shown(line) for line in lines],
             "moves": [move.shown(side, before) for move in moves],
         }
-
-    def line(self, fen, side):
-        """The best line of a side: its bound, the positions that it comes to, and how it ends."""
-        place, _ = self.tables.first(fen)
-        if place is None or self.tables.heads[place].kind != PLAIN:
-            return {"fen": fen, "refused": NO_LINE}
-        answer = self.calls.ask("freezer", "line", self.tables.heads[place].path, fen, side)
-        lines = answer.lines
-        if answer.status not in (0, 6) or not lines:
-            return refused(fen, answer)
-        steps, at = [], fen
-        for move in lines[1:-1]:
-            san, at = self.step(at, move)
-            steps.append({"san": san, "move": move, "fen": at})
-        return {"bound": lines[0], "steps": steps, "end": lines[-1]}
-
-    def step(self, fen, move):
-        """A move of coordinates in algebraic notation, and the position after it."""
-        sans, moves = self.calls.ask_all([("freezer", "sans", fen), ("freezer", "moves", fen)])
-        san = dict(zip(moves.text.split(), sans.text.split()))[move]
-        return san, self.listing.after(fen, san)
 
 
 def refused(fen, answer):

@@ -42,15 +42,15 @@ class Calls:
         self.age = 0
         self.children = set()
 
-    def ask(self, *words):
-        """The answer to these words, kept or new."""
+    def ask(self, *words, seconds=None):
+        """The answer to these words, kept or new, within so many seconds."""
         with self.lock:
             age = self.age
             if words in self.kept:
                 self.kept.move_to_end(words)
                 return self.kept[words]
         with self.places:
-            answer = self.call(words)
+            answer = self.call(words, seconds or LONGEST)
         if answer.status is not None:
             self.keep(words, answer, age)
         return answer
@@ -63,13 +63,13 @@ class Calls:
         """What a task gives for each item, some at once. The task itself does not come back here."""
         return list(self.pool.map(task, items))
 
-    def call(self, words):
+    def call(self, words, seconds):
         try:
             child = self.start(*words)
         except (OSError, ValueError) as fault:
             return Answer(None, f"the program cannot be asked: {fault}")
         try:
-            printed = child.communicate(timeout=LONGEST)[0]
+            printed = child.communicate(timeout=seconds)[0]
         except subprocess.TimeoutExpired:
             end(child)
             child.communicate()
@@ -94,13 +94,14 @@ class Calls:
             self.length = 0
             self.age += 1
 
-    def start(self, *words):
-        """A call that may take long, for who waits for it or ends it."""
+    def start(self, *words, files=()):
+        """A call that may take long, for who waits for it or ends it. It has these open files too."""
         child = subprocess.Popen(
             [self.programs[words[0]], *words[1:]],
             stdin=subprocess.DEVNULL,
             stdout=subprocess.PIPE,
             stderr=subprocess.DEVNULL,
+            pass_fds=files,
             **OWN_GROUP,
         )
         self.children.add(child)

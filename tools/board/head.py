@@ -16,10 +16,11 @@ class NoTable(Exception):
 class Head:
     """What stands before the codes of a table."""
 
-    def __init__(self, path, kind, text, size):
+    def __init__(self, path, kind, raw, size):
         self.path = path
         self.kind = kind
-        self.text = text
+        self.raw = raw
+        self.text = raw.decode("utf-8", "replace")
         self.size = size
 
     @property
@@ -44,8 +45,8 @@ def read_head(path):
             magic, length = file.read(8), int.from_bytes(file.read(4), "little")
             if magic not in KINDS or length > LONGEST_TEXT:
                 raise NoTable(f"{path}: no table of freezer or of atlas")
-            text = file.read(length)
+            raw = file.read(length)
             size = int.from_bytes(file.read(4), "little")
     except OSError as fault:
         raise NoTable(f"{path}: {fault.strerror}") from fault
-    return Head(os.path.abspath(path), KINDS[magic], text.decode("utf-8", "replace"), size)
+    return Head(os.path.abspath(path), KINDS[magic], raw, size)

@@ -20,6 +20,10 @@ FILES = {
     "board.js": ("board.js", "text/javascript"),
     "hand.js": ("hand.js", "text/javascript"),
     "moves.js": ("moves.js", "text/javascript"),
+    "ways.js": ("ways.js", "text/javascript"),
+    "rules.js": ("rules.js", "text/javascript"),
+    "course.js": ("course.js", "text/javascript"),
+    "premises.js": ("premises.js", "text/javascript"),
     "report.js": ("report.js", "text/javascript"),
     "page.js": ("page.js", "text/javascript"),
 }
@@ -107,12 +111,10 @@ class Handler(http.server.BaseHTTPRequestHandler):
             self.send_json(answers.shown())
         elif name == "position" and is_word(fen) and is_word(san):
             self.send_json(answers.position(fen, san))
-        elif name == "line" and is_word(fen) and side in SIDES:
-            self.send_json(answers.line(fen, side))
-        elif name in ("report", "report/start", "report/stop"):
-            if name != "report":
-                getattr(answers.report, name.partition("/")[2])()
-            self.send_json(answers.report.shown())
+        elif name in ("line", "why") and is_word(fen) and side in SIDES:
+            self.send_json(getattr(answers.walks, name)(fen, side))
+        elif name.partition("/")[0] in answers.courses and name.partition("/")[2] in ("", "start", "stop"):
+            self.send_json(answers.course(*name.partition("/")[::2]))
         else:
             self.send_text(404, "no such question")
 

@@ -3,6 +3,7 @@ position."""
 
 import os
 
+from .course import MOST_BEHIND
 from .head import CHAINED, LEANING, PLAIN, read_head
 
 # The program and the command that tell the bounds of a table, by its kind.
@@ -45,6 +46,29 @@ class Tables:
         """The words that ask a table for its bounds at a position."""
         head = self.heads[place]
         return (*ASKED[head.kind], head.path, fen)
+
+    def leant_on(self, place):
+        """The tables that the one at this place leans on: those before a BACK, and all behind TABLE."""
+        if self.heads[place].kind == PLAIN:
+            return []
+        return self.heads[1:place] if place else self.heads[1:]
+
+    def way(self, command, place, fen, side):
+        """The words that ask the table at this place for its best line, or why a bound is none; nothing
+        where no command tells it."""
+        head, backs = self.heads[place], [back.path for back in self.leant_on(place)]
+        if head.kind == PLAIN:
+            return ("freezer" if command == "line" else "atlas", command, head.path, fen, side)
+        if head.kind == LEANING and 0 < len(backs) <= MOST_BEHIND:
+            return ("atlas", command, head.path, fen, side, *backs)
+        return None
+
+    def shown(self):
+        """What the page is told of each table, and whether its ways are told."""
+        return [
+            {**head.shown(), "ways": self.way("line", place, "", "") is not None}
+            for place, head in enumerate(self.heads)
+        ]
 
     def first(self, fen):
         """The place of the first table that has the position, and what it answers; None and the answer of

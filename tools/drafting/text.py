@@ -1,5 +1,6 @@
 """The text of a draft, with what each group costs and what it leaves out."""
 
+from drafting.events import PIECES
 from drafting.groups import NAMES, groups_of, kept_near
 from lib.chess import name_of, side_of, write_fen
 from lib.rules import LARGEST_SET, possible_targets
@@ -79,9 +80,12 @@ class Draft:
 
     def kept(self, group, reach):
         """What a cut does to the men of the group."""
-        if any(self.position.men[s] not in "Pp" for s in group.men):
+        if not self.is_of_pawns(group):
             return f"within {reach} of where it stands" if reach else "where it stands"
         return {3: "promoted, on the last rank alone", 2: "not promoted"}.get(reach, "where it stands")
+
+    def is_of_pawns(self, group):
+        return all(self.position.men[s] in "Pp" for s in group.men)
 
     def warnings(self):
         """What of the opponent's counts as unknown, and so against the side that is asked about."""
@@ -94,8 +98,8 @@ class Draft:
 
     def left_out(self, colour, side):
         men = self.position.men
-        pawns = sorted(s for s in self.events.promotes if side_of(men[s]) == side)
-        if pawns and self.side is None:
+        pawns = sorted(s for s in self.events.promotes if side_of(men[s]) == side and not self.may_become(s))
+        if pawns:
             names = ", ".join(name_of(s) for s in pawns)
             yield f"  what {colour}'s pawns on {names} may become: Q, R, B and N want places, or an exit line"
         if names := ", ".join(name_of(s) for s in self.events.captors() if side_of(men[s]) == side):
@@ -104,8 +108,20 @@ class Draft:
             yield f"  the capture of a pawn on {names}, which has no 0-1"
         last = {tuple(group.men): (group, reach) for group, reach, _ in self.cuts}
         for group, reach in last.values():
-            if group.colour == colour:
-                yield f"  {self.named(group)}, other than {self.kept(group, reach)}"
+            if group.colour == colour and (missed := self.missed(group, reach)):
+                yield f"  {self.named(group)}, {missed}"
+
+    def may_become(self, pawn):
+        """Has the pawn's group places on the last rank for all that it may become?"""
+        rank = 7 if side_of(self.position.men[pawn]) == "w" else 0
+        group = next(g for g in self.groups if pawn in g.men)
+        return all((piece, 8 * rank + pawn % 8) in group.states for piece in PIECES)
+
+    def missed(self, group, reach):
+        """Where the men of the group may go that a cut leaves out. What their pawns may become is told apart."""
+        if self.is_of_pawns(group) and reach in (2, 3):
+            return "promoted and beyond the last rank" if reach == 3 else ""
+        return f"other than {self.kept(group, reach)}"
 
     def victims(self, side):
         """The pawns that stand fast and that the side may take."""

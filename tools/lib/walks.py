@@ -1,7 +1,8 @@
-"""Lines and sessions over any codes, right or wrong: what `line` and `play` print."""
+"""Lines and sessions over any codes, right or wrong: what `line` and `play` print, by one table or over several."""
 
 from lib.chess import move_text
 from lib.game import HOLD, MOST_PLIES, bound_text, is_failure, is_win
+from lib.rules import value_of
 
 MOST_LINES, LONGEST_LINE = 10_000, 64
 
@@ -73,26 +74,57 @@ def hear(game, number, source):
 
 def walk(game, side, codes, number, source=None):
     """Status and text of `line`; with a source of lines, of `play`."""
+    return way(game, side, codes, number, source)[:2]
+
+
+def way(game, side, codes, number, source):
+    """Status, text, and the move by which the way leaves the set, if it does."""
     text, refused = begin_or_refuse(game, side, codes, number)
     if refused is not None:
-        return refused
+        return *refused, None
     plies = 0
     while True:
         if (wrong := wrong_at(game, side, codes, number)) is not None:
-            return wrong[0], text + wrong[1]
+            return wrong[0], text + wrong[1], None
         if (last := end_at(game, number)) is not None:
-            return 0, text + last
+            return 0, text + last, None
         if source is None and codes[number] == HOLD and plies == MOST_PLIES:
-            return 0, text + "cut\n"
+            return 0, text + "cut\n", None
         if source is not None and game.mover(number) != side:
             arm, said, stopped = hear(game, number, source)
             text += said
             if stopped is not None:
-                return stopped[0], text + stopped[1]
+                return stopped[0], text + stopped[1], None
         else:
             arm = choose(game, side, codes, number)
             text += ("" if source is None else "move ") + move_text(arm.move) + "\n"
         plies += 1
         if arm.number is None:
-            return 0, text + f"exit {arm.value}\n"
+            return 0, text + f"exit {arm.value}\n", arm
         number = arm.number
+
+
+def walk_over(table, backs, side, number, source=None):
+    """Status and text of `line` or `play` over several tables, from a number of the first. Each has its game
+    and its codes, and may lean on those before it."""
+    status, text, arm = way(table.game, side, table.codes[side], number, source)
+    while arm is not None and (place := next_place(table, backs, arm.end)) is not None:
+        table, backs, position = backs[place], backs[:place], arm.end
+        number = table.game.set.number(position)
+        status, more, arm = way(table.game, side, table.codes[side], number, source)
+        text += f"back {place + 1}\n" + (named(more, place) if status == 6 else more)
+    return status, text
+
+
+def next_place(table, backs, position):
+    """The place of the table that goes on from a position outside: where the exit lines say nothing, the first
+    one whose set has it."""
+    if not table.leans or value_of(table.game.rules, position)[0] != "unknown":
+        return None
+    return next((k for k, back in enumerate(backs) if back.game.set.number(position) is not None), None)
+
+
+def named(text, place):
+    """The text with the table named in its last line, which tells a wrong code."""
+    lines = text.splitlines()
+    return "".join(line + "\n" for line in [*lines[:-1], f"back {place + 1}: {lines[-1]}"])

@@ -3,12 +3,16 @@ import { ask, at, make, makeButton, refuse, shown } from "./ask.js";
 import { drawBoard, wordsOf } from "./board.js";
 import { listenToHand } from "./hand.js";
 import { showBounds, showMoves } from "./moves.js";
+import { beginPremises, listenToPremises } from "./premises.js";
 import { beginReport, listenToReport, turnReport } from "./report.js";
+import { showText } from "./rules.js";
+import { clearWay, listenToWays, showWays } from "./ways.js";
 
 // The game is a list of steps, each a position and the move to it; `place` is that of the one shown, and
 // `going` that of the one that is asked for.
 const state = { game: [], place: 0, going: 0, turned: false, position: null, picked: null, told: null, asked: 0 };
 const BUSY = 200; // milliseconds after which the page says that it waits
+const PACE = 900; // milliseconds between two moves that are played on
 
 function tableShown() {
   return state.told.tables[state.position.table ?? 0];
@@ -40,7 +44,8 @@ function showGame() {
   at("game").replaceChildren(
     ...state.game.map((step, place) => {
       const item = document.createElement("li");
-      const button = makeButton(step.text ?? "start", place === state.place ? "here" : "", () => go(place));
+      const kind = `${place === state.place ? "here" : ""} ${step.last ? "last" : ""}`.trim();
+      const button = makeButton(step.text ?? "start", kind, () => go(place));
       if (place === state.place) button.setAttribute("aria-current", "step");
       item.append(button);
       return item;
@@ -48,7 +53,7 @@ function showGame() {
   );
   if (inside) at("game").querySelector(".here").focus();
   at("back").disabled = state.place === 0;
-  at("forth").disabled = state.place + 1 >= state.game.length;
+  at("forth").disabled = at("on").disabled = state.place + 1 >= state.game.length;
 }
 
 // Shows the moves; who chose one of them by its key can go on from the best of the next ones.
@@ -64,9 +69,7 @@ function show() {
   showBounds(position, position.table ? tableShown().name : "");
   listMoves();
   showGame();
-  for (const side of ["white", "black"]) {
-    at(`line-${side}`).disabled = position.table === null || tableShown().kind !== "plain";
-  }
+  showWays(position, position.table !== null && tableShown().ways);
   if (document.activeElement !== at("fen")) at("fen").value = position.fen;
 }
 
@@ -107,13 +110,13 @@ const play = shown(async (move) => {
   const { game, place } = state;
   const position = await askPosition({ fen: game[place].fen, san: move.san });
   if (!position) return;
-  at("line-said").textContent = "";
+  clearWay();
   const step = { fen: position.fen, san: move.san, move: move.move };
   arrive(position, numbered([...game.slice(0, place + 1), step]), place + 1);
 });
 
 function open(fen) {
-  at("line-said").textContent = "";
+  clearWay();
   return go(0, [{ fen }]);
 }
 
@@ -145,15 +148,25 @@ function lay(square) {
   if (found.length > 1) at("moves").querySelector("button").focus();
 }
 
-const bestLine = shown(async (side) => {
-  const { game, place, asked } = state;
-  const line = await ask("line", { fen: state.position.fen, side });
-  if (asked !== state.asked) return;
-  at("line-said").textContent = line.refused ?? `${line.bound}; ${line.steps.length} plies, then ${line.end}`;
-  if (line.refused !== undefined) return;
-  state.game = numbered([...game.slice(0, place + 1), ...line.steps]);
+// The game with these steps behind the position that is shown.
+function gameWith(steps) {
+  return numbered([...state.game.slice(0, state.place + 1), ...steps]);
+}
+
+function put(steps) {
+  state.game = gameWith(steps);
   showGame();
-});
+}
+
+// Plays on through the game, a move at a time, until it ends or is told to stop.
+function playOn(wanted = at("on").getAttribute("aria-pressed") !== "true") {
+  clearInterval(state.playing);
+  const plays = wanted && state.going + 1 < state.game.length;
+  at("on").setAttribute("aria-pressed", String(plays));
+  if (!plays) return;
+  go(state.going + 1);
+  state.playing = setInterval(() => (state.going + 1 < state.game.length ? go(state.going + 1) : playOn(false)), PACE);
+}
 
 function flip() {
   state.turned = !state.turned;
@@ -175,6 +188,7 @@ const KEYS = {
   ArrowUp: () => choose(-1),
   ArrowDown: () => choose(1),
   Escape: () => pick(null),
+  p: () => playOn(),
   f: flip,
 };
 
@@ -182,6 +196,7 @@ function onKey(event) {
   if (event.target.closest("input") || event.ctrlKey || event.altKey || event.metaKey) return;
   if (!KEYS[event.key] || !state.position) return;
   event.preventDefault();
+  if (event.key !== "p") playOn(false);
   KEYS[event.key]();
 }
 
@@ -211,19 +226,25 @@ function listen() {
   at("flip").addEventListener("click", flip);
   at("back").addEventListener("click", () => go(state.going - 1));
   at("forth").addEventListener("click", () => go(state.going + 1));
-  at("line-white").addEventListener("click", () => bestLine("white"));
-  at("line-black").addEventListener("click", () => bestLine("black"));
+  at("on").addEventListener("click", () => playOn());
   document.addEventListener("keydown", onKey);
   document.addEventListener("copy", onCopy);
   document.addEventListener("paste", onPaste);
-  listenToReport();
+  document.addEventListener("pointerdown", (event) => event.target.closest("#on") || playOn(false));
+  listenToWays({
+    position: () => state.position,
+    put,
+    play: (steps) => go(state.place + steps.length, gameWith(steps)),
+  });
 }
 
 const KINDS = { plain: "a table", chained: "a chained table", leaning: "a table over others" };
 
-function rulesOf(back) {
+function rulesOf(back, place) {
   const details = document.createElement("details");
-  details.append(make("summary", `Rules text of ${back.name}, ${back.size} numbers`), make("pre", back.text));
+  const text = document.createElement("pre");
+  details.append(make("summary", `Rules text of ${back.name}, ${back.size} numbers`), text);
+  showText(text, place + 1, back.text);
   return details;
 }
 
@@ -233,12 +254,15 @@ async function tell() {
   const [table, ...backs] = state.told.tables;
   document.title = at("title").textContent = table.name;
   at("table-said").textContent = `${KINDS[table.kind]} of ${table.size} numbers`;
-  at("rules").textContent = table.text;
+  showText(at("rules"), 0, table.text);
   at("behind").replaceChildren(...backs.map(rulesOf));
+  beginPremises(open);
   beginReport(table.size, open, () => state.turned);
 }
 
 const begin = shown(async () => {
+  listenToPremises();
+  listenToReport();
   await tell();
   listen();
   if (state.told.start) await open(state.told.start);

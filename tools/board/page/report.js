@@ -1,10 +1,10 @@
 // The report: the mutual zugzwangs as small boards, and the open exits.
-import { ask, at, make, makeButton, shown } from "./ask.js";
+import { at, make, makeButton } from "./ask.js";
 import { smallBoard } from "./board.js";
+import { followCourse } from "./course.js";
 
 const BOARDS = 60;
-const AGAIN = 500; // milliseconds between two questions how far it is
-const told = { boards: BOARDS, drawn: [], report: null, size: 0, open: null, turned: () => false };
+const told = { boards: BOARDS, drawn: [], report: null, size: 0, open: null, turned: () => false, look: null };
 
 function saidOf({ state, seconds, found, number, last, squeezes }) {
   if (state === "none") return "";
@@ -33,19 +33,11 @@ function showBoards(squeezes) {
 
 function showReport(report) {
   told.report = report;
-  const running = report.state === "running";
   at("no-report").hidden = report.can;
-  at("report-stop").hidden = at("report-going").hidden = !running;
-  at("report-start").disabled = running || report.state === "done" || !report.can;
   at("report-said").textContent = saidOf(report);
   at("exits").replaceChildren(...report.exits.map(({ count, men }) => make("li", `${men}: ${count} open exits`)));
   showBoards(report.squeezes);
 }
-
-const look = shown(async (question = "report") => {
-  showReport(await ask(question));
-  if (told.report.state === "running" && question !== "report/stop") setTimeout(look, AGAIN);
-});
 
 // Draws the boards of the report anew, as the board was turned.
 export function turnReport() {
@@ -57,17 +49,14 @@ export function turnReport() {
 // Begins to show reports of a table of this size; `open` shows a position, `turned` tells how.
 export function beginReport(size, open, turned) {
   Object.assign(told, { size, open, turned });
-  look();
+  told.look();
 }
 
 export function listenToReport() {
+  told.look = followCourse("report", showReport);
   at("report-start").addEventListener("click", () => {
     told.boards = BOARDS;
-    look("report/start");
-    at("report-stop").hidden = false;
-    at("report-stop").focus();
   });
-  at("report-stop").addEventListener("click", () => look("report/stop"));
   at("more").addEventListener("click", () => {
     told.boards += BOARDS;
     showBoards(told.report.squeezes);

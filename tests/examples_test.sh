@@ -1,0 +1,59 @@
+# shellcheck shell=bash
+# examples/run: what is built for the lines of `bounds`, and how its answers are compared.
+
+# A folder of examples with programs that answer as the file ANSWERS beside each text says.
+make_examples() {
+    here=$room/top/crates/rules_examples/data
+    mkdir -p "$here"
+    cp "$repository/examples/run" "$here/run"
+    cat > "$room/top/freezer" <<'END'
+#!/bin/sh
+echo "${0##*/} $(for word; do printf '%s ' "${word##*/}"; done)" >> "$FAKE_LOG"
+case "$1" in
+    build) : > "$3"; echo "built 1" ;;
+    chain) : > "$4"; echo "chained 1" ;;
+    chaincheck) echo "exact 1 on 1" ;;
+    check) if [ $# -gt 2 ]; then shift 2; printf 'exact 1 over'; printf ' 1%.0s' "$@"; echo; else echo "exact 1"; fi ;;
+    premises) cat "$2.premises" ;;
+    *) printf 'white none\nblack holds\n' ;;
+esac
+END
+    chmod +x "$room/top/freezer"
+    cp "$room/top/freezer" "$room/top/atlas"
+    export FAKE_LOG=$room/log
+    cat > "$here/bounds" <<'END'
+# RULES | FEN | WHITE | BLACK
+A | 8/8 w | none | holds
+B | premises | rules; line 5 believed 8/8 b; believed 1
+C over A B | premises | back 1; back 2; rules; believed 0
+C over A B | 8/8 w | none | holds
+D on A | 8/8 w | none | holds
+D on A | premises | back 1; rules; believed 0
+END
+    printf 'rules\nline 5 believed 8/8 b\nbelieved 1\n' > "$here/B.premises"
+    printf 'back 1\nback 2\nrules\nbelieved 0\n' > "$here/C.premises"
+    printf 'back 1\nrules\nbelieved 0\n' > "$here/D.premises"
+}
+
+test_examples_compare_bounds_and_premises() {
+    make_examples
+    run "$here/run"
+    is "$status $err" "0 " "the status"
+    has "$out" "all as wanted"
+    has "$out" "rules, line 5 believed 8/8 b, believed 1"
+    is "$(count 'freezer build')" 4 "texts that are built by freezer: A, A and B for C, A for D"
+    is "$(grep '^atlas' "$FAKE_LOG" | cut -d ' ' -f 2-)" "premises B 
+build C C.t A.t B.t 
+check C.t A.t B.t 
+query C.t 8 w 
+premises C A.t B.t 
+premises D A.t " "what atlas is asked"
+}
+
+test_examples_tell_other_premises() {
+    make_examples
+    printf 'rules\nbelieved 0\n' > "$here/B.premises"
+    run "$here/run" B
+    is "$status" 1 "the status"
+    has "$out" "premises $here/B: rules, believed 0; wanted: rules, line 5 believed 8/8 b, believed 1"
+}

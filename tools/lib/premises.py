@@ -1,0 +1,145 @@
+"""What exit lines rest on, and what the bounds of a side then are in chess: what `premises` prints, read from
+docs/FORMATS.md and, for lines that are true by the men, from docs/PROMISES.md."""
+
+from lib.chess import after, legal_moves, write_fen
+from lib.game import HOLD, SIDES, is_win, opponent
+from lib.rules import holds, read_range
+
+OTHER_KINDS = "QRBNP"
+
+
+def exit_numbers(text):
+    """The numbers, from 1, of the lines of a text that are exit lines."""
+    lines = [line.replace("\t", " ").replace("\r", " ").split() for line in text.split("\n")]
+    return [number for number, words in enumerate(lines, 1) if words[:1] == ["exit"]]
+
+
+def exits_of(game):
+    """The positions one legal move outside the set, by number and in move order, free moves or not."""
+    for number in range(game.set.size):
+        position = game.set.at(number)
+        for move in legal_moves(position) if position is not None else ():
+            end = after(position, move)
+            if game.set.number(end) is None:
+                yield end
+
+
+def line_at(rules, position):
+    """The place of the first exit line that fits, or None."""
+    fits = (all(holds(condition, position) for condition in line.conditions) for line in rules.exits)
+    return next((place for place, fit in enumerate(fits) if fit), None)
+
+
+def has_kind(rules, side, kind):
+    return any(g.colour == side and any(k == kind for k, _ in g.states) for g in rules.groups)
+
+
+def leaves_at_most(rules, line, side, kind, most):
+    """Whether the side has at most so many men of the kind where the line fits, one move outside."""
+    if not has_kind(rules, side, kind) and not has_kind(rules, side, "P"):
+        return True
+    no_pawns = not any(has_kind(rules, colour, "P") for colour in SIDES)
+    of_kind = [g.most for g in rules.groups if g.colour == side and any(k == kind for k, _ in g.states)]
+    if no_pawns and sum(of_kind) <= most:
+        return True
+    return any(
+        c.name == "count" and not c.negated and c.words[:2] == [side, kind] and read_range(c.words[2])[1] <= most
+        for c in line.conditions
+    )
+
+
+def leaves(rules, line, side, **mosts):
+    return all(leaves_at_most(rules, line, side, kind, mosts.get(kind, 0)) for kind in OTHER_KINDS)
+
+
+def leaves_bare(rules, line, side):
+    return leaves(rules, line, side)
+
+
+def leaves_minor(rules, line, side):
+    """Beside its king the side has one man at most, a bishop or a knight."""
+    return leaves(rules, line, side, B=1) or leaves(rules, line, side, N=1)
+
+
+def is_true_by_men(rules, line):
+    if line.value == "draw":
+        return any(leaves_bare(rules, line, s) and leaves_minor(rules, line, opponent(s)) for s in SIDES)
+    side, _, verb = line.value.partition(" ")
+    return verb == "holds" and leaves_bare(rules, line, opponent(side))
+
+
+def is_uncounted(line, side):
+    return line.value == f"{side} wins"
+
+
+def counts_wins(table, side):
+    """Whether the plies of the side's wins in the table are plies to mate."""
+    return not table.leans and not any(is_uncounted(line, side) for line in table.game.rules.exits)
+
+
+def says_as_much(table, line, position):
+    """Whether the table's set has the position, and its codes say there at least what the line says."""
+    number = table.game.set.number(position)
+    if number is None:
+        return False
+    codes = {side: table.codes[side][number] for side in SIDES}
+    if line.value == "draw":
+        return all(code == HOLD or is_win(code) for code in codes.values())
+    side, verb, *plies = line.value.split(" ")
+    if verb == "holds":
+        return codes[side] == HOLD or is_win(codes[side])
+    soon = not plies or (codes[side] <= 2 + 2 * line.lag and counts_wins(table, side))
+    return is_win(codes[side]) and soon
+
+
+def basis_of(rules, tables, line, exits):
+    """What a line rests on that decides these exits."""
+    if not exits or line.value == "unknown":
+        return "asks nothing"
+    if is_true_by_men(rules, line):
+        return "true by the men"
+    for position in exits:
+        if not any(says_as_much(table, line, position) for table in tables):
+            return f"believed {write_fen(position)}"
+    for place, table in enumerate(tables, 1):
+        if all(says_as_much(table, line, position) for position in exits):
+            return f"proved by back {place}"
+    return "proved by several backs"
+
+
+def bases_of(text, game, tables):
+    """The lines that are printed of the exit lines of a text, where these tables may prove them."""
+    decided = [[] for _ in game.rules.exits]
+    for position in exits_of(game):
+        if (place := line_at(game.rules, position)) is not None:
+            decided[place].append(position)
+    bases = [basis_of(game.rules, tables, line, exits) for line, exits in zip(game.rules.exits, decided)]
+    return [f"line {number} {basis}" for number, basis in zip(exit_numbers(text), bases)]
+
+
+def is_bad(value, side):
+    return not (value == "draw" or value.startswith(f"{side} "))
+
+
+def strength_of(game, believed, side):
+    """What the bounds of a side are, where so many lines of all texts are believed."""
+    values = [game.value(position)[0] for position in exits_of(game)]
+    if believed:
+        return "true if believed"
+    if any(line.colour == side for line in game.rules.forbids):
+        return "true, moves renounced"
+    if any(value == "unknown" or value.endswith("holds") for value in values):
+        return "true, exits undecided"
+    return "exact but for plies" if any(is_bad(value, opponent(side)) for value in values) else "exact"
+
+
+def premises_text(text, game, tables):
+    """What `premises` prints of a text over tables that are exact; each of these has its own text."""
+    lines = []
+    for place, table in enumerate(tables):
+        lines += [f"back {place + 1}", *bases_of(table.text, table.game, tables[:place])]
+    lines += ["rules", *bases_of(text, game, tables)]
+    believed = sum(" believed " in line for line in lines)
+    lines.append(f"believed {believed}")
+    lines += [f"{side} {strength_of(game, believed, side)}" for side in SIDES]
+    return "".join(line + "\n" for line in lines)
