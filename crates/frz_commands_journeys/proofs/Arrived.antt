@@ -1,5 +1,5 @@
 -- Where a journey over loaded tables arrives, and how the command ends then.
-use Rattle.std.proofs.Common.{◌≡◌, ◌↔◌, ◌≤◌, refl, sym, ap, subst, ◌∙◌, ℕ, suc, List, [], ◌∷◌, length, map, false, Option, Some, Ok, Err, Result, arith}
+use Rattle.std.proofs.Common.{◌≡◌, ◌↔◌, ◌≤◌, refl, sym, ap, subst, ℕ, suc, List, [], ◌∷◌, length, map, false, Some, Ok, Err, Result, arith}
 use Rattle.frz_board.specs.Boards.{Board}
 use Rattle.frz_index.specs.Members.{Member}
 use Rattle.frz_store.specs.Told.{SinkTold, SourceTold, StoreFine, StoreQuiet, StoreTold}

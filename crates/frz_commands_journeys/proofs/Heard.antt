@@ -1,7 +1,6 @@
 -- What a journey heard and took of the command's input: a line nothing, and a session what it was
 -- played against.
-use Rattle.std.proofs.Common.{◌≡◌, ◌≤◌, ◌++◌, refl, sym, subst, ap, ◌∙◌, ℕ, List, [], ◌∷◌, take, drop, length, true, false, Option, Some, None, Result, Ok, Err, IfSome, arith}
-use Rattle.std.specs.Option.{option_map}
+use Rattle.std.proofs.Common.{◌≡◌, ◌++◌, refl, sym, subst, ap, ℕ, List, [], ◌∷◌, take, length, false, Option, Some, Result, Ok, Err, IfSome}
 use Rattle.frz_store.specs.Told.{SourceTold}
 use Rattle.frz_ways.specs.declared.opponent.Opponent.{Opponent}
 use Rattle.frz_ways.specs.declared.opponent.Opponent.TheVariants.{Codes, Input}
@@ -64,35 +63,35 @@ chosen Codes heard free = free
 chosen Input heard free = heard
 
 module _ (whole took rest : List ℕ) (answer : Result WayEnd PlayFault) (source gone : SourceTold)
-    where
-  pub heard_whole : (opponent : Opponent) → Hears opponent whole took answer source gone
-      → (free : List ℕ) → heard_by opponent (chosen opponent whole free) ≡ whole
-  heard_whole Codes h free = sym (h.none refl).0
-  heard_whole Input h free = refl
+  where
+    pub heard_whole : (opponent : Opponent) → Hears opponent whole took answer source gone
+        → (free : List ℕ) → heard_by opponent (chosen opponent whole free) ≡ whole
+    heard_whole Codes h free = sym (h.none refl).0
+    heard_whole Input h free = refl
 
-  pub split_there : (opponent : Opponent) → Hears opponent whole took answer source gone
-      → took ++ rest ≡ whole → (free : List ℕ)
-      → took ++ chosen opponent rest free ≡ chosen opponent whole free
-  split_there Codes h split free = ap (λ (l : List ℕ). l ++ free) (h.none refl).1
-  split_there Input h split free = split
+    pub split_there : (opponent : Opponent) → Hears opponent whole took answer source gone
+        → took ++ rest ≡ whole → (free : List ℕ)
+        → took ++ chosen opponent rest free ≡ chosen opponent whole free
+    split_there Codes h split free = ap (λ (l : List ℕ). l ++ free) (h.none refl).1
+    split_there Input h split free = split
 
-  pub may_whole : (opponent : Opponent) → Hears opponent whole took answer source gone
-      → (free : List ℕ) → IfSome source.left (λ told. told ≡ free)
-      → IfSome source.left (λ told. told ≡ chosen opponent whole free)
-  may_whole Codes h free may = may
-  may_whole Input h free may = h.may refl
+    pub may_whole : (opponent : Opponent) → Hears opponent whole took answer source gone
+        → (free : List ℕ) → IfSome source.left (λ told. told ≡ free)
+        → IfSome source.left (λ told. told ≡ chosen opponent whole free)
+    may_whole Codes h free may = may
+    may_whole Input h free may = h.may refl
 
-  pub may_rest : (opponent : Opponent) → Hears opponent whole took answer source gone
-      → took ++ rest ≡ whole → (free : List ℕ) → IfSome gone.left (λ told. told ≡ free)
-      → IfSome gone.left (λ told. told ≡ chosen opponent rest free)
-  may_rest Codes h split free may = may
-  may_rest Input h split free may =
-      rest_left took rest whole source.left gone.left split h.bytes.behind (h.may refl)
+    pub may_rest : (opponent : Opponent) → Hears opponent whole took answer source gone
+        → took ++ rest ≡ whole → (free : List ℕ) → IfSome gone.left (λ told. told ≡ free)
+        → IfSome gone.left (λ told. told ≡ chosen opponent rest free)
+    may_rest Codes h split free may = may
+    may_rest Input h split free may =
+        rest_left took rest whole source.left gone.left split h.bytes.behind (h.may refl)
 
-  pub none_taken : (opponent : Opponent) → Hears opponent whole took answer source gone
-      → takes_input opponent ≡ false → took ≡ []
-  none_taken Codes h e = (h.none refl).1
-  none_taken Input h e = cc
+    pub none_taken : (opponent : Opponent) → Hears opponent whole took answer source gone
+        → takes_input opponent ≡ false → took ≡ []
+    none_taken Codes h e = (h.none refl).1
+    none_taken Input h e = cc
 
 pub untaken : (opponent : Opponent) (heard free : List ℕ) → takes_input opponent ≡ false
     → chosen opponent heard free ≡ free

@@ -1,5 +1,5 @@
 -- That `line` and `play` have one answer, which means what it is to mean.
-use Rattle.std.proofs.Common.{◌≡◌, ℕ, List, [], arith}
+use Rattle.std.proofs.Common.{ℕ, List, [], arith}
 use Rattle.frz_board.specs.Boards.{Board}
 use Rattle.frz_board.specs.declared.man.Colour.{Colour}
 use Rattle.frz_fen.specs.Reading.{fen_of}

@@ -1,12 +1,10 @@
 -- What the answers of `line` and `play` mean.
-use Rattle.std.proofs.Common.{◌≡◌, ◌≤◌, ◌+◌, ◌*◌, ◌-◌, refl, sym, ap, subst, ◌∙◌, inl, inr, ℕ, zero, suc, List, [], ◌∷◌, length, map, take, Bool, true, false, Option, None, Some, Result, Ok, Err, arith}
-use Rattle.std.specs.Prelude.{MatchBool, MatchOption, All, slice_index, slice_index_or}
+use Rattle.std.proofs.Common.{◌≡◌, ◌≤◌, ◌+◌, ◌*◌, refl, sym, ap, subst, ◌∙◌, inl, inr, ℕ, zero, suc, List, [], ◌∷◌, length, map, take, Bool, true, false, Option, None, Some, Result, Ok, Err, arith}
+use Rattle.std.specs.Prelude.{MatchBool, MatchOption, slice_index}
 use Rattle.std.specs.Option.{unwrap_or}
 use Rattle.frz_board.specs.Boards.{Board}
 use Rattle.frz_board.specs.declared.man.Colour.{Colour}
 use Rattle.frz_board.specs.declared.man.Colour.TheVariants.{White, Black}
-use Rattle.frz_exits.specs.Books.{value_by}
-use Rattle.frz_game.specs.Values.{AreTrueExits}
 use Rattle.frz_index.specs.Members.{Member, Num}
 use Rattle.frz_index.specs.Membership.{is_member}
 use Rattle.frz_index.proofs.Lemmas.{member_of, of_member}
@@ -22,8 +20,7 @@ use Rattle.frz_game.specs.declared.wrong.Wrong.{Wrong as WrongEntry}
 use Rattle.frz_check.specs.Kept.{kept_codes}
 use Rattle.frz_check.specs.KeptTables.{KeepsTables}
 use Rattle.frz_check.proofs.Lemmas.{bound_kept}
-use Rattle.frz_chain.specs.FileOn.{back_of}
-use Rattle.frz_backs.specs.Links.{AreExact, AreTrueLines, Link, backs_of}
+use Rattle.frz_backs.specs.Links.{AreExact, Link, backs_of}
 use Rattle.frz_backs.specs.Values.{atlas_value}
 use Rattle.frz_backs.proofs.Lemmas.{exits_over_true}
 use Rattle.frz_atlas.specs.Behind.{TableBytes, link_of}
@@ -33,7 +30,6 @@ use Rattle.frz_answer.specs.declared.status.Status.{Status}
 use Rattle.frz_answer.specs.declared.status.Status.TheVariants as statuses
 use Rattle.frz_answer.specs.Answers.{Answer, says}
 use Rattle.frz_prelude.specs.Refusals.{refusal_line, status_of, table_status}
-use Rattle.frz_prelude.specs.TableFiles.{OpensAsKind}
 use Rattle.frz_prelude.specs.declared.refused.Refused.TheVariants as refusals
 use Rattle.frz_prelude.proofs.Lemmas.{by_table_status}
 use Rattle.frz_atlas_prelude.specs.BackLines.{back_line}
@@ -63,7 +59,7 @@ use Rattle.frz_journeys.specs.Journeys.{IsJourney, Stage, onward}
 use Rattle.frz_journeys.specs.KeptBounds.{EndsHeldAt, EndsWonAt, HaveOwnSets, IsHeldAt, IsWonAt}
 use Rattle.frz_journeys.specs.Tables.{codes_of}
 use Rattle.frz_commands_journeys.specs.Endings.{answer_status}
-use Rattle.frz_commands_journeys.specs.JourneyOf.{IsPlayed, IsPlayedAt, IsPlayedBy, IsPlayedOver, journey_answer, leaning, played_text}
+use Rattle.frz_commands_journeys.specs.JourneyOf.{IsPlayed, IsPlayedAt, IsPlayedBy, IsPlayedOver, leaning, played_text}
 use Rattle.frz_commands_journeys.specs.Meaning.{ArrivesSo, HasJourney, MeansStatus, Opens, start_code}
 use Rattle.frz_commands_journeys.proofs.Unstopped.{never_limited}
 

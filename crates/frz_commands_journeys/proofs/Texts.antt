@@ -18,7 +18,6 @@ use Rattle.frz_ways.specs.declared.session_end.PlayFault.TheVariants as plays
 use Rattle.frz_ways.specs.declared.session_end.PlayLimit.{PlayLimit}
 use Rattle.frz_ways.specs.declared.session_end.PlayLimit.TheVariants.{Lines, LineLength}
 use Rattle.frz_ways.specs.declared.way_end.WayEnd.{WayEnd}
-use Rattle.frz_ways.specs.declared.way_end.WayEnd.TheVariants as ends
 use Rattle.frz_ways.specs.Reading.{Input}
 use Rattle.frz_ways.specs.SessionTexts.{end_text, refused_text, start_line, why_line}
 use Rattle.frz_ways.specs.Texts.{exit_line}

@@ -1,5 +1,5 @@
 -- How a command ends whose tables were refused, or could not be read.
-use Rattle.std.proofs.Common.{◌≡◌, refl, sym, ap, subst, ◌∙◌, ℕ, ◌≤◌, List, [], ◌∷◌, map, Bool, true, false, Option, Some, Result, Ok, Err, arith}
+use Rattle.std.proofs.Common.{◌≡◌, refl, sym, subst, ℕ, ◌≤◌, List, [], ◌∷◌, map, Bool, true, false, Option, Result, Ok, Err, arith}
 use Rattle.std.specs.Prelude.{MatchBool}
 use Rattle.std.specs.Option.{unwrap_or}
 use Rattle.frz_board.specs.Boards.{Board}

@@ -1,5 +1,5 @@
 -- A line has no input that could stop it.
-use Rattle.std.proofs.Common.{◌≡◌, ◌==◌, ◌&&◌, refl, sym, subst, ap, ◌∙◌, ℕ, suc, Bool, true, false, List, [], ◌∷◌, take, Option, Some, None, Result, Ok, Err, inl, inr, if◌then◌else◌}
+use Rattle.std.proofs.Common.{◌≡◌, ◌==◌, ◌&&◌, refl, subst, ℕ, suc, Bool, true, false, List, [], ◌∷◌, take, Option, Some, None, Err, inl, inr, if◌then◌else◌}
 use Rattle.std.specs.Prelude.{MatchOption}
 use Rattle.frz_board.specs.Boards.{Board}
 use Rattle.frz_board.specs.Men.{same_colour}
@@ -18,10 +18,8 @@ use Rattle.frz_arena.specs.WayEnds.{Wrong, NoBound, Mated, Stalemated, Exit, Cut
 use Rattle.frz_arena.specs.Ways.{Stage as Due, Over, Moves, is_cut, stage as due_at, stage_of, IsStopBy, IsWay}
 use Rattle.frz_backs.specs.Links.{Link}
 use Rattle.frz_ways.specs.declared.opponent.Opponent.TheVariants.{Codes}
-use Rattle.frz_ways.specs.declared.session_end.PlayFault.{PlayFault}
 use Rattle.frz_ways.specs.declared.session_end.PlayFault.TheVariants as plays
 use Rattle.frz_ways.specs.declared.session_end.PlayLimit.{PlayLimit}
-use Rattle.frz_ways.specs.declared.way_end.WayEnd.{WayEnd}
 use Rattle.frz_ways.specs.ChessGames.{after_plies}
 use Rattle.frz_ways.specs.Reading.{Halt, Input}
 use Rattle.frz_ways.specs.WayEnds.{told}

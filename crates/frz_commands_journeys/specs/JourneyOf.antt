@@ -1,7 +1,6 @@
 -- What `line` and `play` answer: the journey of a side by the codes in the files. No file changes.
 use Rattle.std.specs.Prelude.{◌≡◌, ℕ, ◌-◌, List, [], ◌++◌, length, map, true, MatchBool, Result, Ok, Err}
 use Rattle.frz_board.specs.Boards.{Board}
-use Rattle.frz_board.specs.declared.man.Colour.{Colour}
 use Rattle.frz_index.specs.Membership.{is_member}
 use Rattle.frz_store.specs.Files.{Files, bytes_at}
 use Rattle.frz_table.specs.declared.fault.TableFault.{TableFault}
