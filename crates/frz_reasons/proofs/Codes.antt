@@ -1,5 +1,5 @@
 -- Codes of wins and failures one ply on, and whose turn it is.
-use Rattle.std.proofs.Common.{◌≡◌, ◌≤◌, ◌+◌, ◌&&◌, not, ℕ, ◌⊎◌, inl, inr, Bool, true, false, refl, subst, arith}
+use Rattle.std.proofs.Common.{◌≡◌, ◌≤◌, ◌+◌, ◌&&◌, not, ℕ, ◌⊎◌, inl, inr, Bool, true, false, refl, arith}
 use Rattle.std.proofs.lemmas.Bool.Decides.{nat_tests}
 use Rattle.frz_board.specs.declared.man.Colour.{Colour}
 use Rattle.frz_board.specs.declared.man.Colour.TheVariants.{White, Black}

@@ -1,6 +1,6 @@
 -- How the denials of a hold are told, move by move.
-use Rattle.std.proofs.Common.{◌≡◌, ◌≤◌, ◌+◌, ◌-◌, ◌++◌, not, ℕ, suc, Bool, true, false, List, [], ◌∷◌, Option, Some, None, map, length, take, drop, refl, sym, subst, ap, ◌∙◌, get_or, Result, Ok, Err, arith}
-use Rattle.std.specs.Prelude.{filter, find, take_while, is_none, IfOk}
+use Rattle.std.proofs.Common.{◌≡◌, ◌≤◌, ◌+◌, ◌-◌, ◌++◌, ℕ, suc, true, false, List, [], ◌∷◌, Option, Some, None, map, length, take, drop, refl, sym, subst, ap, ◌∙◌, get_or, Result, Ok, Err, arith}
+use Rattle.std.specs.Prelude.{filter, is_none, IfOk}
 use Rattle.std.specs.List.{All, prefix_len}
 use Rattle.std.specs.Result.{IsErr}
 use Rattle.std.proofs.lemmas.List.{take_rest}
@@ -16,7 +16,6 @@ use Rattle.frz_arena.specs.declared.arm.Arm.{Arm}
 use Rattle.frz_arena.specs.Arena.{Arena}
 use Rattle.frz_graph.specs.EntryCodes.{IsWithin}
 use Rattle.frz_game.specs.declared.wrong.Wrong.{Wrong}
-use Rattle.frz_reasons.specs.declared.denial.Denial.{Denial}
 use Rattle.frz_reasons.specs.Denials.{is_denied, first_wrong, leads_right, other_denial, other_denials, own_denial, own_denials, reply_to, wrong_behind}
 use Rattle.frz_reasons.specs.ReasonTexts.{denial_line, denials_text}
 use Rattle.frz_reasons.specs.TellingDenials.{TellsOwn}
@@ -89,60 +88,60 @@ module _ (arena : Arena Step ℕ Value) (side : Colour) (codes : List ℕ) where
   wrong_first a arms wrong = (rw wrong refl, rw wrong refl)
 
   module _ (arms rest : List (Arm Step ℕ Value)) (a : Arm Step ℕ Value) (is : arms ≡ a ∷ rest)
-      where
-    pub own_skipped : a.free ≡ false → (result : Result (Option Wrong) Failed)
-        (old new : SinkTold) → TellsOwn arena side codes (free_ones rest) result old new
-        → TellsOwn arena side codes (free_ones arms) result old new
-    own_skipped free result old new tells =
-        subst (λ l. TellsOwn arena side codes l result old new) (sym (free_later arms rest a is free))
-        tells
-
-    pub own_stopped : a.free ≡ true → (w : Wrong) → wrong_behind arena side codes a.next ≡ Some w
-        → (out : SinkTold) → TellsOwn arena side codes (free_ones arms) (Ok (Some w)) out out
-    own_stopped free w wrong out =
-        let first = wrong_first a (free_ones rest) (ap is_none wrong) in
-        let result : Result (Option Wrong) Failed = Ok (Some w) in
-        subst (λ l. TellsOwn arena side codes l result out out)
-        (sym (free_first arms rest a is free))
-        (record {
-          wrote = subst (λ l. WroteText (denials_text l) result out out) (sym first.0)
-              (record { ok = took_nothing out; failed = tt });
-          answers = sym (first.1 ∙ wrong);
-        })
-
-    module _ (free : a.free ≡ true) (right : wrong_behind arena side codes a.next ≡ None)
-        (reply : Option Step) (replied : reply ≡ reply_to arena side codes a.next) where
-      -- the text of its denial, and of the others
-      text_told : denials_text (own_denials arena side codes (a ∷ free_ones rest))
-          ≡ denial_line (record { mv = a.mv; reply = reply })
-          ++ denials_text (own_denials arena side codes (free_ones rest))
-      text_told =
-          ap denials_text (right_first a (free_ones rest) (ap is_none right))
-          ∙ ap (λ r. denial_line (record { mv = a.mv; reply = r })
-          ++ denials_text (own_denials arena side codes (free_ones rest))) (sym replied)
-
-      pub own_told : (result : Result (Option Wrong) Failed) (old mid new : SinkTold)
-          → TookText (denial_line (record { mv = a.mv; reply = reply })) old mid
-          → TellsOwn arena side codes (free_ones rest) result mid new
+    where
+      pub own_skipped : a.free ≡ false → (result : Result (Option Wrong) Failed)
+          (old new : SinkTold) → TellsOwn arena side codes (free_ones rest) result old new
           → TellsOwn arena side codes (free_ones arms) result old new
-      own_told result old mid new took tells =
-          subst (λ l. TellsOwn arena side codes l result old new)
+      own_skipped free result old new tells =
+          subst (λ l. TellsOwn arena side codes l result old new) (sym (free_later arms rest a is free))
+          tells
+
+      pub own_stopped : a.free ≡ true → (w : Wrong) → wrong_behind arena side codes a.next ≡ Some w
+          → (out : SinkTold) → TellsOwn arena side codes (free_ones arms) (Ok (Some w)) out out
+      own_stopped free w wrong out =
+          let first = wrong_first a (free_ones rest) (ap is_none wrong) in
+          let result : Result (Option Wrong) Failed = Ok (Some w) in
+          subst (λ l. TellsOwn arena side codes l result out out)
           (sym (free_first arms rest a is free))
           (record {
-            wrote = subst (λ l. WroteText l result old new) (sym text_told)
-                (wrote_next took tells.wrote);
-            answers = subst (λ w. IfOk result (λ r. r ≡ w))
-                (sym (wrong_later a (free_ones rest) (ap is_none right))) tells.answers;
+            wrote = subst (λ l. WroteText (denials_text l) result out out) (sym first.0)
+                (record { ok = took_nothing out; failed = tt });
+            answers = sym (first.1 ∙ wrong);
           })
 
-      pub own_failed : (result : Result (Option Wrong) Failed) (old new : SinkTold)
-          → IsErr result → FailedWithin (denial_line (record { mv = a.mv; reply = reply })) old new
-          → TellsOwn arena side codes (free_ones arms) result old new
-      own_failed result old new err failed =
-          subst (λ l. TellsOwn arena side codes l result old new)
-          (sym (free_first arms rest a is free))
-          (record {
-            wrote = subst (λ l. WroteText l result old new) (sym text_told)
-                (gave_up err (failed_first _ failed));
-            answers = no_answer result (first_wrong arena side codes (a ∷ free_ones rest)) err;
-          })
+      module _ (free : a.free ≡ true) (right : wrong_behind arena side codes a.next ≡ None)
+          (reply : Option Step) (replied : reply ≡ reply_to arena side codes a.next) where
+        -- the text of its denial, and of the others
+        text_told : denials_text (own_denials arena side codes (a ∷ free_ones rest))
+            ≡ denial_line (record { mv = a.mv; reply = reply })
+            ++ denials_text (own_denials arena side codes (free_ones rest))
+        text_told =
+            ap denials_text (right_first a (free_ones rest) (ap is_none right))
+            ∙ ap (λ r. denial_line (record { mv = a.mv; reply = r })
+            ++ denials_text (own_denials arena side codes (free_ones rest))) (sym replied)
+
+        pub own_told : (result : Result (Option Wrong) Failed) (old mid new : SinkTold)
+            → TookText (denial_line (record { mv = a.mv; reply = reply })) old mid
+            → TellsOwn arena side codes (free_ones rest) result mid new
+            → TellsOwn arena side codes (free_ones arms) result old new
+        own_told result old mid new took tells =
+            subst (λ l. TellsOwn arena side codes l result old new)
+            (sym (free_first arms rest a is free))
+            (record {
+              wrote = subst (λ l. WroteText l result old new) (sym text_told)
+                  (wrote_next took tells.wrote);
+              answers = subst (λ w. IfOk result (λ r. r ≡ w))
+                  (sym (wrong_later a (free_ones rest) (ap is_none right))) tells.answers;
+            })
+
+        pub own_failed : (result : Result (Option Wrong) Failed) (old new : SinkTold)
+            → IsErr result → FailedWithin (denial_line (record { mv = a.mv; reply = reply })) old new
+            → TellsOwn arena side codes (free_ones arms) result old new
+        own_failed result old new err failed =
+            subst (λ l. TellsOwn arena side codes l result old new)
+            (sym (free_first arms rest a is free))
+            (record {
+              wrote = subst (λ l. WroteText l result old new) (sym text_told)
+                  (gave_up err (failed_first _ failed));
+              answers = no_answer result (first_wrong arena side codes (a ∷ free_ones rest)) err;
+            })

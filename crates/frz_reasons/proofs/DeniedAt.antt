@@ -1,5 +1,5 @@
 -- What is told of a number at which the side holds.
-use Rattle.std.proofs.Common.{◌≡◌, ℕ, inl, inr, true, false, List, [], Option, Some, None, refl, sym, subst, ap, ◌∙◌, Result, Ok, Err}
+use Rattle.std.proofs.Common.{◌≡◌, ℕ, inl, inr, true, false, List, [], Option, Some, None, refl, subst, ap, ◌∙◌, Result, Ok}
 use Rattle.std.specs.Result.{IsErr}
 use Rattle.frz_board.specs.declared.man.Colour.{Colour}
 use Rattle.frz_board.specs.Men.{other_of, same_colour}
@@ -7,7 +7,7 @@ use Rattle.frz_board.specs.Moving.{Step}
 use Rattle.frz_sets.specs.declared.exit.Value.{Value}
 use Rattle.frz_store.specs.Told.{SinkTold}
 use Rattle.frz_store.specs.declared.outside.Failed.{Failed}
-use Rattle.frz_answer.specs.Texts.{TookText, FailedWithin, WroteText}
+use Rattle.frz_answer.specs.Texts.{TookText, FailedWithin}
 use Rattle.frz_answer.proofs.Lemmas.{took_nothing, gave_up}
 use Rattle.frz_arena.specs.declared.arm.Arm.{Arm}
 use Rattle.frz_arena.specs.declared.node.Node.TheVariants.{Stalemate, Going}

@@ -1,5 +1,5 @@
 -- A failing way over the numbers of a set is a game of chess.
-use Rattle.std.proofs.Common.{◌≡◌, ◌≢◌, ◌||◌, not, ℕ, inl, inr, Bool, true, false, List, [], ◌∷◌, Option, Some, None, map, refl, sym, subst, ap, ◌∙◌}
+use Rattle.std.proofs.Common.{◌≡◌, ◌≢◌, ℕ, inl, inr, Bool, true, false, List, [], ◌∷◌, Some, map, refl, sym, subst, ap, ◌∙◌}
 use Rattle.std.specs.List.{Contains}
 use Rattle.std.proofs.lemmas.Bool.{cases_Bool}
 use Rattle.frz_board.specs.declared.man.Colour.{Colour}
@@ -19,16 +19,15 @@ use Rattle.frz_arena.specs.declared.arm.Next.TheVariants.{Inside, Outside}
 use Rattle.frz_arena.specs.declared.node.Node.{Node}
 use Rattle.frz_arena.specs.declared.node.Node.TheVariants.{Mate, Going}
 use Rattle.frz_arena.specs.Arena.{IsArm}
-use Rattle.frz_arena.specs.Chess.{IsMated}
 use Rattle.frz_arena.specs.Games.{next_by, node_by}
 use Rattle.frz_arena.specs.Names.{named_next, name_in, node_at}
 use Rattle.frz_arena.proofs.Lemmas.{from_mapped, first_in, later_in, in_cases, none_in_empty}
-use Rattle.frz_game.specs.Games.{chess, arena_by, graph_by, arm_at}
+use Rattle.frz_game.specs.Games.{arena_by, graph_by, arm_at}
 use Rattle.frz_game.specs.Numbers.{is_member, position_at, numbers_by}
 use Rattle.frz_game.proofs.Lemmas.{arms_there}
 use Rattle.frz_reasons.specs.declared.reason.Reason.{Reason}
 use Rattle.frz_reasons.specs.FailingWays.{IsPlayedAt, FailsFrom, wrong, mated, renounced, leaves, goes_on}
-use Rattle.frz_reasons.specs.FailingGames.{IsGameFrom, EndsAt, HasLeft, HasRenounced, position_behind}
+use Rattle.frz_reasons.specs.FailingGames.{IsGameFrom, EndsAt, HasRenounced, position_behind}
 use Rattle.frz_reasons.proofs.Codes.{same_side}
 use Rattle.frz_reasons.proofs.Played.{played_arm, as_one}
 

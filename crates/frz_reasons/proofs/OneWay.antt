@@ -12,7 +12,7 @@ use Rattle.frz_arena.specs.Codes.{is_failure}
 use Rattle.frz_arena.specs.LocalCodes.{next_code}
 use Rattle.frz_reasons.specs.declared.reason.Reason.{Reason}
 use Rattle.frz_reasons.specs.declared.reason.Reason.TheVariants.{Wrong, Mated, Renounced, Left}
-use Rattle.frz_reasons.specs.LocalEntries.{Agrees, Differs, wrong_at}
+use Rattle.frz_reasons.specs.LocalEntries.{Agrees, wrong_at}
 use Rattle.frz_reasons.specs.FailingWays.{IsPlayedAt, FailsFrom, wrong, mated, renounced, leaves, goes_on}
 use Rattle.frz_reasons.specs.FailuresTell.{FailsAt, code_behind}
 use Rattle.frz_reasons.proofs.Codes.{failure_least}

@@ -1,6 +1,5 @@
 -- The move that is played at a number whose code is a failure.
-use Rattle.std.proofs.Common.{◌≡◌, ◌≢◌, ◌≤◌, ◌+◌, ◌-◌, ◌==◌, ◌&&◌, ◌||◌, not, ℕ, ◌⊎◌, inl, inr, Bool, true, false, List, [], ◌∷◌, refl, sym, subst, ap, ◌∙◌, slice_index, arith}
-use Rattle.std.specs.List.{Contains}
+use Rattle.std.proofs.Common.{◌≡◌, ◌≢◌, ◌+◌, ◌-◌, ◌==◌, ◌&&◌, ◌||◌, not, ℕ, inl, inr, Bool, true, false, List, refl, sym, subst, ap, ◌∙◌, slice_index, arith}
 use Rattle.std.proofs.lemmas.Bool.{cases_Bool, eq-eqb, eqb-true}
 use Rattle.frz_board.specs.declared.man.Colour.{Colour}
 use Rattle.frz_board.specs.Men.{other_of, same_colour}
@@ -8,14 +7,14 @@ use Rattle.frz_board.specs.Moving.{Step}
 use Rattle.frz_sets.specs.declared.exit.Value.{Value}
 use Rattle.frz_arena.specs.declared.arm.Arm.{Arm}
 use Rattle.frz_arena.specs.declared.node.Node.TheVariants.{Mate, Going}
-use Rattle.frz_arena.specs.Arena.{Arena, IsArm, IsLawful}
+use Rattle.frz_arena.specs.Arena.{Arena, IsArm}
 use Rattle.frz_arena.specs.Chosen.{IsFirst, is_candidate}
 use Rattle.frz_arena.specs.Codes.{is_failure}
 use Rattle.frz_reasons.specs.LocalEntries.{given_at, Agrees, Differs}
 use Rattle.frz_reasons.specs.FailingWays.{IsPlayedAt}
 use Rattle.frz_reasons.specs.FailuresTell.{FailsAt, code_behind, mated, renounced, moves, waits}
 use Rattle.frz_reasons.proofs.Best.{at_in, first_there, one_first}
-use Rattle.frz_reasons.proofs.Codes.{failure_least, same_side, other_side, not_other}
+use Rattle.frz_reasons.proofs.Codes.{same_side, other_side}
 
 same_mover : (m n : Colour) → Going m ≡ Going n → m ≡ n
 same_mover m n e = cc

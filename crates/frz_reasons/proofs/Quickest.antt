@@ -1,5 +1,5 @@
 -- By the side's table the move that is played spoils soonest, or lasts longest.
-use Rattle.std.proofs.Common.{◌≡◌, ◌≤◌, ◌+◌, ◌*◌, ◌-◌, ◌↔◌, ℕ, true, List, refl, sym, subst, ap, ◌∙◌, slice_index, arith}
+use Rattle.std.proofs.Common.{◌≡◌, ◌≤◌, ◌+◌, ◌*◌, ℕ, true, List, refl, sym, subst, ◌∙◌, slice_index, arith}
 use Rattle.frz_board.specs.declared.man.Colour.{Colour}
 use Rattle.frz_board.specs.Men.{other_of}
 use Rattle.frz_board.specs.Moving.{Step}

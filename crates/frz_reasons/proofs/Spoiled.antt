@@ -2,7 +2,7 @@
 use Rattle.std.proofs.Common.{◌≡◌, ◌≢◌, ◌≤◌, ◌+◌, ◌&&◌, not, ℕ, ◌⊎◌, inl, inr, Bool, true, false, List, [], ◌∷◌, refl, sym, subst, ap, ◌∙◌, slice_index, arith, if◌then◌else◌}
 use Rattle.std.specs.Bool.{⊤}
 use Rattle.std.specs.List.{Contains}
-use Rattle.std.proofs.lemmas.Bool.{cases_lt, cases_Bool}
+use Rattle.std.proofs.lemmas.Bool.{cases_lt}
 use Rattle.frz_board.specs.declared.man.Colour.{Colour}
 use Rattle.frz_board.specs.Men.{other_of, same_colour}
 use Rattle.frz_board.specs.Moving.{Step}
@@ -17,7 +17,7 @@ use Rattle.frz_arena.proofs.Lemmas.{first_in, at_broken}
 use Rattle.frz_reasons.specs.LocalEntries.{Agrees}
 use Rattle.frz_reasons.specs.FailuresTell.{FailsAt, code_behind, mated, renounced, moves, waits}
 use Rattle.frz_reasons.proofs.Best.{IsOrder, IsBest, best_of}
-use Rattle.frz_reasons.proofs.Codes.{win_no_failure, hold_no_failure, win_itself_no_failure, both_of, as_both, not_false, not_true, whose, same_side, other_side}
+use Rattle.frz_reasons.proofs.Codes.{win_no_failure, hold_no_failure, win_itself_no_failure, both_of, as_both, not_true, whose, same_side, other_side}
 
 module _ (arena : Arena Step ℕ Value) (side : Colour) (codes : List ℕ) (number : ℕ) where
   -- the code of an arm, and the local code
@@ -115,18 +115,18 @@ module _ (arena : Arena Step ℕ Value) (side : Colour) (codes : List ℕ) (numb
           | inr no_win ↦ elim (best_of
               (λ (a : Arm Step ℕ Value). a.free && not (is_failure (behind a)))
               (λ a b. ⊤) anyhow (arena.arms number)) [
-            | inl r ↦ absurd (
-                let t = both_of r.0.free (not (is_failure (behind r.0))) r.1.passes in
-                hold_no_failure given
-                (laws.own_hold n r.0 r.1.there t.0 (not_true (is_failure (behind r.0)) t.1)
-                (λ b i u. false_of (is_win (behind b))
-                (λ w. no_win b i (as_both b.free (is_win (behind b)) u w)))) fails)
-            | inr no_hold ↦ own_by n
-                (λ b i u. true_of (is_failure (behind b))
-                (λ h. no_hold b i (as_both b.free (not (is_failure (behind b))) u h)))
-                (best_of (λ (a : Arm Step ℕ Value). a.free) (λ a b. behind b ≤ behind a) downward
-                (arena.arms number))
-          ]
+                | inl r ↦ absurd (
+                    let t = both_of r.0.free (not (is_failure (behind r.0))) r.1.passes in
+                    hold_no_failure given
+                    (laws.own_hold n r.0 r.1.there t.0 (not_true (is_failure (behind r.0)) t.1)
+                    (λ b i u. false_of (is_win (behind b))
+                    (λ w. no_win b i (as_both b.free (is_win (behind b)) u w)))) fails)
+                | inr no_hold ↦ own_by n
+                    (λ b i u. true_of (is_failure (behind b))
+                    (λ h. no_hold b i (as_both b.free (not (is_failure (behind b))) u h)))
+                    (best_of (λ (a : Arm Step ℕ Value). a.free) (λ a b. behind b ≤ behind a) downward
+                    (arena.arms number))
+              ]
         ]
 
     some_in : (arms : List (Arm Step ℕ Value)) → arms ≢ [] →
@@ -144,23 +144,23 @@ module _ (arena : Arena Step ℕ Value) (side : Colour) (codes : List ℕ) (numb
           | inr no_failure ↦ elim (best_of
               (λ (a : Arm Step ℕ Value). not (is_win (behind a)))
               (λ a b. ⊤) anyhow (arena.arms number)) [
-            | inl r ↦ absurd (hold_no_failure given
-                (laws.other_hold n r.0 r.1.there (not_true (is_win (behind r.0)) r.1.passes)
-                (λ b i. false_of (is_failure (behind b)) (λ w. no_failure b i w))) fails)
-            | inr no_hold ↦ elim (best_of
-                (λ (a : Arm Step ℕ Value). true) (λ a b. behind b ≤ behind a) downward
-                (arena.arms number)) [
-              | inl r ↦ absurd (
-                  let each : (b : Arm Step ℕ Value) → IsArm arena number b →
-                  is_win (behind b) ≡ true =
-                  λ b i. true_of (is_win (behind b)) (λ h. no_hold b i h) in
-                  win_no_failure given (behind r.0) (each r.0 r.1.there)
-                  (laws.other_win n r.0 r.1.there (λ b i. (each b i, r.1.best b i refl))) fails)
-              | inr none ↦ absurd (
-                  let some = some_in (arena.arms number) (law.goes_on number (other_of side) n) in
-                  none some.0 some.1 refl)
-            ]
-          ]
+                | inl r ↦ absurd (hold_no_failure given
+                    (laws.other_hold n r.0 r.1.there (not_true (is_win (behind r.0)) r.1.passes)
+                    (λ b i. false_of (is_failure (behind b)) (λ w. no_failure b i w))) fails)
+                | inr no_hold ↦ elim (best_of
+                    (λ (a : Arm Step ℕ Value). true) (λ a b. behind b ≤ behind a) downward
+                    (arena.arms number)) [
+                      | inl r ↦ absurd (
+                          let each : (b : Arm Step ℕ Value) → IsArm arena number b →
+                          is_win (behind b) ≡ true =
+                          λ b i. true_of (is_win (behind b)) (λ h. no_hold b i h) in
+                          win_no_failure given (behind r.0) (each r.0 r.1.there)
+                          (laws.other_win n r.0 r.1.there (λ b i. (each b i, r.1.best b i refl))) fails)
+                      | inr none ↦ absurd (
+                          let some = some_in (arena.arms number) (law.goes_on number (other_of side) n) in
+                          none some.0 some.1 refl)
+                    ]
+              ]
         ]
 
     at_mate : (mover : Colour) → arena.node number ≡ Mate mover →

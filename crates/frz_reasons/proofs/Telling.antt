@@ -8,7 +8,7 @@ use Rattle.frz_board.specs.Texts.{text_of}
 use Rattle.frz_sets.specs.declared.exit.Value.{Value}
 use Rattle.frz_store.specs.Told.{SinkTold}
 use Rattle.frz_store.specs.declared.outside.Failed.{Failed}
-use Rattle.frz_answer.specs.Texts.{TookText, FailedWithin, WroteText}
+use Rattle.frz_answer.specs.Texts.{TookText, FailedWithin}
 use Rattle.frz_answer.proofs.Lemmas.{took_nothing, took_next, failed_next, failed_first, gave_up}
 use Rattle.frz_arena.specs.declared.arm.Arm.{Arm}
 use Rattle.frz_arena.specs.declared.arm.Next.TheVariants.{Inside, Outside}

@@ -1,7 +1,6 @@
 -- A turn of a failing way, by what was found in the list of the moves.
-use Rattle.std.proofs.Common.{◌≡◌, ◌≢◌, ◌<◌, ◌+◌, ◌-◌, ◌==◌, ◌&&◌, ◌||◌, not, ℕ, inl, inr, Bool, true, false, List, [], Option, Some, map, length, refl, sym, subst, ap, ◌∙◌, get_or, slice_index, arith}
+use Rattle.std.proofs.Common.{◌≡◌, ◌<◌, ◌+◌, ◌-◌, ℕ, inl, inr, Bool, true, List, [], Some, map, length, refl, sym, subst, ap, ◌∙◌, get_or, slice_index, arith}
 use Rattle.std.specs.Prelude.{slice_get, option_map}
-use Rattle.std.specs.List.{Contains}
 use Rattle.std.proofs.lemmas.Bool.{cases_Bool}
 use Rattle.std.proofs.lemmas.Option.{slice_get_read, slice_get_within, get_or_from_slice_get, slice_get-map}
 use Rattle.frz_board.specs.declared.man.Colour.{Colour}
@@ -11,8 +10,7 @@ use Rattle.frz_sets.specs.declared.exit.Value.{Value}
 use Rattle.frz_arena.specs.declared.arm.Arm.{Arm}
 use Rattle.frz_arena.specs.declared.node.Node.TheVariants.{Mate, Going}
 use Rattle.frz_arena.specs.Arena.{Arena, IsArm}
-use Rattle.frz_arena.specs.Chosen.{IsFirst, is_candidate}
-use Rattle.frz_arena.specs.Codes.{is_failure}
+use Rattle.frz_arena.specs.Chosen.{is_candidate}
 use Rattle.frz_graph.specs.EntryCodes.{arm_code}
 use Rattle.frz_graph.specs.Finite.{IsFinite}
 use Rattle.frz_graph.proofs.Lemmas.{same_next}
@@ -22,8 +20,8 @@ use Rattle.frz_reasons.specs.FailingWays as ways
 use Rattle.frz_reasons.specs.FailingWays.{IsPlayedAt, FailsFrom}
 use Rattle.frz_reasons.specs.FailuresTell.{FailsAt, code_behind, mated, renounced, moves, waits}
 use Rattle.frz_reasons.specs.Places.{is_one, IsOneAt}
-use Rattle.frz_reasons.proofs.Codes.{whose, same_side, other_side}
-use Rattle.frz_reasons.proofs.Played.{is_one as as_candidate, as_one}
+use Rattle.frz_reasons.proofs.Codes.{other_side}
+use Rattle.frz_reasons.proofs.Played.{is_one as as_candidate}
 
 -- the code at the place of an arm
 code_there : (f : Arm Step ℕ Value → ℕ) (arms : List (Arm Step ℕ Value)) (k : ℕ)

@@ -5,13 +5,11 @@ use Rattle.frz_board.specs.Men.{other_of}
 use Rattle.frz_board.specs.Moving.{Step}
 use Rattle.frz_sets.specs.declared.exit.Value.{Value}
 use Rattle.frz_arena.specs.declared.arm.Arm.{Arm}
-use Rattle.frz_arena.specs.declared.arm.Next.{Next}
 use Rattle.frz_arena.specs.declared.node.Node.TheVariants.{Mate, Going}
 use Rattle.frz_arena.specs.Arena.{Arena, IsArm}
 use Rattle.frz_arena.specs.Codes.{is_failure}
 use Rattle.frz_arena.specs.LocalCodes.{arm_code}
 use Rattle.frz_arena.specs.Plies.{LeadsTo, FailsWithin, IsBadExit}
-use Rattle.frz_reasons.specs.LocalEntries.{Agrees}
 
 -- the code of the side behind a move
 abbrev pub code_behind : Arena Step ℕ Value → Colour → (codes : List ℕ) → Arm Step ℕ Value → ℕ

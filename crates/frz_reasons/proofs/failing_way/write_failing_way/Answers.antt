@@ -1,4 +1,4 @@
-use Rattle.std.proofs.Common.{◌+◌, ◌/◌, ◌≤◌, ℕ, refl, slice_index, arith}
+use Rattle.std.proofs.Common.{arith}
 use Rattle.frz_store.specs.Told.{sink_of}
 use Rattle.frz_reasons.proofs.Lengths.{goes_less}
 use Rattle.frz_reasons.proofs.OneWay.{way_behind}

@@ -2,7 +2,6 @@ use Rattle.std.specs.Prelude.{codes}
 use Rattle.frz_board.specs.Texts.{text_of}
 use Rattle.frz_answer.proofs.Lemmas.{failed_before, gave_up, wrote_behind}
 use Rattle.std.proofs.Common.{refl, ◌++◌}
-use Rattle.frz_store.specs.Told.{sink_of}
 use Rattle.frz_reasons.proofs.texts.write_behind.Goals as goal
 
 pub returns-in_err-write_piece : goal.returns-in_err-write_piece

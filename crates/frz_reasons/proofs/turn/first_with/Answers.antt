@@ -1,4 +1,4 @@
-use Rattle.std.proofs.Common.{◌<◌, below_more, length, sym, ap, ◌∙◌, arith, get_or}
+use Rattle.std.proofs.Common.{below_more, sym, ap, ◌∙◌, arith, get_or}
 use Rattle.frz_reasons.specs.Places.{is_one}
 use Rattle.frz_reasons.proofs.PlaceFacts.{not_here, one_within}
 use Rattle.frz_reasons.proofs.turn.first_with.Goals as goal
