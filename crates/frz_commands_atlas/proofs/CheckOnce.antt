@@ -24,7 +24,6 @@ use Rattle.frz_prelude.proofs.Lemmas.{refusal_said}
 use Rattle.frz_atlas.specs.Behind.{TableBytes, backs_in}
 use Rattle.frz_atlas.specs.Checking.{sizes_in}
 use Rattle.frz_atlas.specs.declared.fault.BackFault.{BackFault}
-use Rattle.frz_atlas.specs.declared.fault.BackFault.TheVariants.{Refused, Wrong}
 use Rattle.frz_atlas_prelude.specs.BackLines.{back_line, back_status}
 use Rattle.frz_atlas_prelude.proofs.Lemmas.{AllFound, all_exact, all_found, back_said, never_refused, not_both, one_place, one_refused, one_tables}
 use Rattle.frz_commands_atlas.specs.Checking.{IsCheckedAt, IsJudgedAtlas, judged, no_back, no_table, verdict_line, verdict_status}

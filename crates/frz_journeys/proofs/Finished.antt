@@ -14,7 +14,7 @@ use Rattle.frz_ways.specs.declared.way_end.WayEnd.TheVariants as ends
 use Rattle.frz_ways.specs.PlayLoaded.{IsSettled}
 use Rattle.frz_ways.specs.Reading.{Input}
 use Rattle.frz_ways.specs.WayEnds as ways
-use Rattle.frz_ways.specs.WayEnds.{told, told_why, IsEndHere}
+use Rattle.frz_ways.specs.WayEnds.{told, IsEndHere}
 use Rattle.frz_ways.specs.Ways.{WayPly, EndOfWay}
 use Rattle.frz_journeys.specs.declared.place.Place.{Place}
 use Rattle.frz_journeys.specs.Arrivals.{Arrives, Finishes, StopsShort}
