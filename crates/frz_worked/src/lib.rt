@@ -21,6 +21,8 @@ mod numbers;
 #[cfg(test)]
 mod reading;
 #[cfg(test)]
+mod reasons;
+#[cfg(test)]
 mod retro;
 #[cfg(test)]
 mod steps;
