@@ -123,22 +123,42 @@ const ROWS: &[Row] = &[
         b"outside\n",
     ),
     // The words are refused in turn: their number, the names, SIDE, FEN.
-    Row(&["knight", CORNER, "white"], End::Done(Status::Words), b"words: count\n"),
+    Row(
+        &["knight", CORNER, "white"],
+        End::Done(Status::Words),
+        b"words: count\n",
+    ),
     Row(
         &["rook", "k7", "red", "knight", "rook"],
         End::Done(Status::Words),
         b"words: same name\n",
     ),
-    Row(&["knight", "k7", "red", "rook"], End::Done(Status::Words), b"words: side\n"),
-    Row(&["none", "k7", "white", "rook"], End::Done(Status::Fen), b"fen: fields\n"),
+    Row(
+        &["knight", "k7", "red", "rook"],
+        End::Done(Status::Words),
+        b"words: side\n",
+    ),
+    Row(
+        &["none", "k7", "white", "rook"],
+        End::Done(Status::Fen),
+        b"fen: fields\n",
+    ),
     // The table is opened before those behind it.
-    Row(&["rook", CORNER, "white", "empty"], End::Done(Status::Table), b"table: magic\n"),
+    Row(
+        &["rook", CORNER, "white", "empty"],
+        End::Done(Status::Table),
+        b"table: magic\n",
+    ),
     Row(
         &["knight", CORNER, "white", "rook", "empty"],
         End::Done(Status::Table),
         b"back 2: truncated 0 due 16\n",
     ),
-    Row(&["knight", CORNER, "white", "none"], End::Done(Status::Missing), b"missing back 1\n"),
+    Row(
+        &["knight", CORNER, "white", "none"],
+        End::Done(Status::Missing),
+        b"missing back 1\n",
+    ),
 ];
 
 #[test]
@@ -173,25 +193,40 @@ fn each_call_of_a_line_may_fail_before_anything_is_written(rt: HostRuntime) -> R
     Ok(())
 }
 
-/// An input and its calls that fail; the end of White's session from the corner, what it writes
-/// behind the first bound of the table behind, and what it leaves of the input.
+/// An input and its calls that fail; the end of White's session from the corner, its text, and what
+/// it leaves of the input.
 #[derive(Drop)]
-struct Reply(&'static [u8], &'static [Failing], End, &'static [u8], &'static [u8]);
+struct Reply(
+    &'static [u8],
+    &'static [Failing],
+    End,
+    &'static [u8],
+    &'static [u8],
+);
 
 const REPLIES: &[Reply] = &[
     Reply(
         b"a8a7\na8b8\nb8a8\n",
         &[],
         End::Done(Status::Success),
-        b"illegal\nreply a8b8\nmove h1h8\nmate\n",
+        b"white wins within 1\nmove g1h1\nexit white wins\nback 1\nwhite wins within 2\n\
+            illegal\nreply a8b8\nmove h1h8\nmate\n",
         b"b8a8\n",
     ),
-    Reply(b"", &[], End::Done(Status::Success), b"input ended\n", b""),
+    Reply(
+        b"",
+        &[],
+        End::Done(Status::Success),
+        b"white wins within 1\nmove g1h1\nexit white wins\nback 1\nwhite wins within 2\n\
+            input ended\n",
+        b"",
+    ),
     Reply(
         b"0123456789012345678901234567890123456789012345678901234567890123456789",
         &[],
         End::Done(Status::Limit),
-        b"limit line length\n",
+        b"white wins within 1\nmove g1h1\nexit white wins\nback 1\nwhite wins within 2\n\
+            limit line length\n",
         b"56789",
     ),
     Reply(
@@ -202,7 +237,7 @@ const REPLIES: &[Reply] = &[
             keep: 0,
         }],
         End::Stopped(Fault::Input),
-        b"",
+        b"white wins within 1\nmove g1h1\nexit white wins\nback 1\nwhite wins within 2\n",
         b"8b8\n",
     ),
 ];
@@ -215,9 +250,7 @@ fn check_reply(rt: &impl Abort, alloc: Global, row: &Reply) -> Result<(), Fail> 
     let mut out = MemSink::new(alloc, 300, Vec::new(alloc)).or(Err("sink"))?;
     let line = ["knight", CORNER, "white", "rook"];
     let end = play(alloc, &line, Some(&mut input), &mut store, &mut out)?;
-    let first = b"white wins within 1\nmove g1h1\nexit white wins\nback 1\nwhite wins within 2\n";
-    assert!(rt; out.taken().starts_with(first));
-    check_bytes(rt, &out.taken()[first.len()..], text, "play");
+    check_bytes(rt, out.taken(), text, "play");
     check_bytes(rt, input.left(), left, "left");
     assert_eq!(rt; end, *wanted);
     Ok(())
