@@ -14,11 +14,7 @@ use frz_table::TableFault;
 use std::alloc::Global;
 
 /// Opens the table of this name as its own kind, and loads its codes, which are not checked.
-pub fn load_own<S: Store>(
-    alloc: Global,
-    store: &mut S,
-    name: &str,
-) -> Result<BackTable, TableFault>
+pub fn load_own<S: Store>(alloc: Global, store: &mut S, name: &str) -> Result<BackTable, TableFault>
     ensures loaded { IfOk result (LoadsOne name.now
         (store_of S.Store store.old) (store_of S.Store store.new)) }
     ensures refused { IfErr result (RefusesOne name.now

@@ -21,8 +21,6 @@ mod numbers;
 #[cfg(test)]
 mod reading;
 #[cfg(test)]
-mod reasons;
-#[cfg(test)]
 mod retro;
 #[cfg(test)]
 mod steps;

@@ -125,9 +125,9 @@ fn solves_by_hand(rt: HostRuntime) -> Result<(), Fail> {
 /// - 8, Black is to move, to 7 or 9 or an exit that Black wins in 2. For White: Black plays the
 ///   exit: 5. For Black: the exit, 1 + 2 plies: 8.
 /// - 9, White is stalemated: 1 for both.
-pub(crate) const TEN_WHITE: [u32; 10] = [2, 0, 4, 14, 16, 1, 1, 16, 5, 1];
+const TEN_WHITE: [u32; 10] = [2, 0, 4, 14, 16, 1, 1, 16, 5, 1];
 
-pub(crate) const TEN_BLACK: [u32; 10] = [3, 0, 5, 7, 5, 7, 5, 5, 8, 1];
+const TEN_BLACK: [u32; 10] = [3, 0, 5, 7, 5, 7, 5, 5, 8, 1];
 
 /// A run of the game of ten numbers for the side leaves these entries.
 fn check_run<L: Ledger, R: Abort>(
