@@ -60,7 +60,7 @@ table_more before (s ∷ tables) t =
     (append_assoc before (s.link ∷ []) (links_in tables))
 
 -- the lines of the tables that were loaded, with one table more
-pub back_more : (backs : List BackTable) (place : ℕ) (back : BackTable) → place < length backs →
+back_more : (backs : List BackTable) (place : ℕ) (back : BackTable) → place < length backs →
     back ≡ get_or backs place back →
     behind_lines [] (map text_link_loaded (take (place + 1) backs))
     ≡ behind_lines [] (map text_link_loaded (take place backs))
@@ -82,6 +82,23 @@ back_more backs place back within is =
     ∷ text_lines back.table.text back.table.rules (links_in texts)) many
     ∙ ap (λ (l : List Link). behind_lines [] texts ++ Back place
     ∷ text_lines back.table.text back.table.rules l) links
+
+pub behind_more : (backs : List BackTable) (place : ℕ) (back : BackTable)
+    (old lines pushed : List Line) (text : List ℕ) (rules : RuleLines) → place < length backs →
+    back ≡ get_or backs place back →
+    lines ≡ old ++ behind_lines [] (map text_link_loaded (take place backs)) →
+    pushed ≡ lines ++ Back place ∷ [] → text ≡ back.table.text → rules ≡ back.table.rules →
+    pushed ++ text_lines text rules (map link_loaded (take place backs))
+    ≡ old ++ behind_lines [] (map text_link_loaded (take (place + 1) backs))
+behind_more backs place back old lines pushed text rules within is so_far push is_text is_rules =
+    let links = map link_loaded (take place backs) in
+    let front = behind_lines [] (map text_link_loaded (take place backs)) in
+    let own = text_lines back.table.text back.table.rules links in
+    ap₂ (λ (t : List ℕ) (r : RuleLines). pushed ++ text_lines t r links) is_text is_rules
+    ∙ ap (λ (l : List Line). l ++ own) (push ∙ ap (λ (l : List Line). l ++ Back place ∷ []) so_far)
+    ∙ append_assoc (old ++ front) (Back place ∷ []) own
+    ∙ append_assoc old front (Back place ∷ own)
+    ∙ ap (λ (l : List Line). old ++ l) (sym (back_more backs place back within is))
 
 -- what the bounds of a side are, by the book that was used
 pub strength_told : (rules used : RuleLines) (backs asked : List BackTable) (believed : ℕ)
