@@ -1,23 +1,43 @@
 -- Lines that are added one by one.
 use Rattle.std.proofs.Common.{◌≡◌, ◌+◌, ◌<◌, ◌++◌, ◌∷◌, ◌∙◌, [], ℕ, zero, suc, List, ap, ap₂, arith, append_assoc, append-nil, get_or, length, refl, sym, take}
 use Rattle.std.specs.Prelude.{map}
+use Rattle.std.proofs.lemmas.List.{length-map, length-take-le, map-append, take_more}
+use Rattle.frz_board.specs.declared.man.Colour.{Colour}
+use Rattle.frz_board.specs.declared.man.Colour.TheVariants.{White, Black}
+use Rattle.frz_sets.specs.Views.{RuleLines}
+use Rattle.frz_chain.specs.Books.{Back as BackCodes}
+use Rattle.frz_chain.specs.FileOn.{loaded_back}
+use Rattle.frz_chain.specs.declared.back.BackTable.{BackTable}
 use Rattle.frz_backs.specs.Links.{Link}
+use Rattle.frz_backs.specs.Loaded.{link_loaded}
+use Rattle.frz_backs.specs.Values.{atlas_value}
+use Rattle.frz_backs.proofs.Lemmas.{loaded_backs}
+use Rattle.frz_premises.specs.declared.sides.ExitValues.{ExitValues}
+use Rattle.frz_premises.specs.Sides.{exits_tell, strength_of}
 use Rattle.frz_premises.specs.declared.basis.Basis.{Basis}
 use Rattle.frz_commands_premises.specs.declared.line.Line.{Line}
-use Rattle.frz_commands_premises.specs.declared.line.Line.TheVariants.{Back, Exit}
-use Rattle.frz_commands_premises.specs.PremiseLines.{TextLink, behind_lines, lines_by, links_in, text_lines}
+use Rattle.frz_commands_premises.specs.declared.line.Line.TheVariants.{Back, Rules, Exit, Believed, Side}
+use Rattle.frz_commands_premises.specs.PremiseLines.{TextLink, basis_lines, behind_lines, belief_among, last_lines, lines_by, links_in, premise_lines, strength_over, text_link_loaded, text_lines}
+use Rattle.frz_commands_premises.proofs.ExactTables.{links_loaded}
 
 -- one exit line more
-pub line_more : (numbers : List ℕ) (bases : List Basis) (i n : ℕ) (b : Basis) →
-    i < length numbers → i < length bases → n ≡ get_or numbers i n → b ≡ get_or bases i b →
-    take (suc i) (lines_by numbers bases) ≡ take i (lines_by numbers bases) ++ Exit n b ∷ []
-line_more [] bases i n b within also is_n is_b = absurd (omega arith)
-line_more (m ∷ numbers) [] i n b within also is_n is_b = absurd (omega arith)
-line_more (m ∷ numbers) (c ∷ bases) zero n b within also is_n is_b =
-    ap₂ (λ (k : ℕ) (d : Basis). Exit k d ∷ []) (sym is_n) (sym is_b)
-line_more (m ∷ numbers) (c ∷ bases) (suc i) n b within also is_n is_b =
+pub line_more : (numbers : List ℕ) (bases : List Basis) (i d : ℕ) (b : Basis) →
+    i < length numbers → i < length bases → b ≡ get_or bases i b →
+    take (suc i) (lines_by numbers bases)
+    ≡ take i (lines_by numbers bases) ++ Exit (get_or numbers i d) b ∷ []
+line_more [] bases i d b within also is = absurd (omega arith)
+line_more (m ∷ numbers) [] i d b within also is = absurd (omega arith)
+line_more (m ∷ numbers) (c ∷ bases) zero d b within also is =
+    ap (λ (x : Basis). Exit m x ∷ []) (sym is)
+line_more (m ∷ numbers) (c ∷ bases) (suc i) d b within also is =
     ap (λ (l : List Line). Exit m c ∷ l)
-    (line_more numbers bases i n b (omega arith) (omega arith) is_n is_b)
+    (line_more numbers bases i d b (omega arith) (omega arith) is)
+
+pub many_lines : (numbers : List ℕ) (bases : List Basis) → length numbers ≡ length bases →
+    length (lines_by numbers bases) ≡ length numbers
+many_lines [] bases same = refl
+many_lines (n ∷ numbers) [] same = absurd (omega arith)
+many_lines (n ∷ numbers) (b ∷ bases) same = ap suc (many_lines numbers bases (omega arith))
 
 -- the lines of one table
 abbrev pub table_lines : List Link → TextLink → List Line
@@ -38,3 +58,95 @@ table_more before (s ∷ tables) t =
     ∙ ap (λ (ls : List Link). (table_lines before s
     ++ behind_lines (before ++ s.link ∷ []) tables) ++ table_lines ls t)
     (append_assoc before (s.link ∷ []) (links_in tables))
+
+-- the lines of the tables that were loaded, with one table more
+back_more : (backs : List BackTable) (place : ℕ) (back : BackTable) → place < length backs →
+    back ≡ get_or backs place back →
+    behind_lines [] (map text_link_loaded (take (place + 1) backs))
+    ≡ behind_lines [] (map text_link_loaded (take place backs))
+    ++ Back place ∷ text_lines back.table.text back.table.rules
+    (map link_loaded (take place backs))
+back_more backs place back within is =
+    let front = take place backs in
+    let texts = map text_link_loaded front in
+    let links : links_in texts ≡ map link_loaded front = links_loaded front in
+    let many : length (links_in texts) ≡ place =
+    ap (length {A = Link}) links ∙ length-map front link_loaded
+    ∙ length-take-le place backs (omega (arith, within)) in
+    ap (λ (l : List BackTable). behind_lines [] (map text_link_loaded l))
+    (take_more backs place back within
+    ∙ ap (λ (b : BackTable). front ++ b ∷ []) (sym is))
+    ∙ ap (behind_lines []) (map-append text_link_loaded front (back ∷ []))
+    ∙ table_more [] texts (text_link_loaded back)
+    ∙ ap (λ (n : ℕ). behind_lines [] texts ++ Back n
+    ∷ text_lines back.table.text back.table.rules (links_in texts)) many
+    ∙ ap (λ (l : List Link). behind_lines [] texts ++ Back place
+    ∷ text_lines back.table.text back.table.rules l) links
+
+pub behind_more : (backs : List BackTable) (place : ℕ) (back : BackTable)
+    (old lines pushed : List Line) (text : List ℕ) (rules : RuleLines) → place < length backs →
+    back ≡ get_or backs place back →
+    lines ≡ old ++ behind_lines [] (map text_link_loaded (take place backs)) →
+    pushed ≡ lines ++ Back place ∷ [] → text ≡ back.table.text → rules ≡ back.table.rules →
+    pushed ++ text_lines text rules (map link_loaded (take place backs))
+    ≡ old ++ behind_lines [] (map text_link_loaded (take (place + 1) backs))
+behind_more backs place back old lines pushed text rules within is so_far push is_text is_rules =
+    let links = map link_loaded (take place backs) in
+    let front = behind_lines [] (map text_link_loaded (take place backs)) in
+    let own = text_lines back.table.text back.table.rules links in
+    ap₂ (λ (t : List ℕ) (r : RuleLines). pushed ++ text_lines t r links) is_text is_rules
+    ∙ ap (λ (l : List Line). l ++ own) (push ∙ ap (λ (l : List Line). l ++ Back place ∷ []) so_far)
+    ∙ append_assoc (old ++ front) (Back place ∷ []) own
+    ∙ append_assoc old front (Back place ∷ own)
+    ∙ ap (λ (l : List Line). old ++ l) (sym (back_more backs place back within is))
+
+-- what the bounds of a side are, by the book that was used
+pub strength_told : (rules used : RuleLines) (backs asked : List BackTable) (believed : ℕ)
+    (values : ExitValues) (side : Colour) → used ≡ rules → asked ≡ backs →
+    values ≡ exits_tell rules (λ q. atlas_value used (map loaded_back asked) q) →
+    strength_of rules believed values side
+    ≡ strength_over rules (map link_loaded backs) believed side
+strength_told rules used backs asked believed values side same_rules same_backs e =
+    ap (λ (v : ExitValues). strength_of rules believed v side)
+    (e ∙ ap₂ (λ (r : RuleLines) (bs : List BackCodes). exits_tell rules (λ q. atlas_value r bs q))
+    same_rules (ap (map loaded_back) same_backs ∙ sym (loaded_backs backs)))
+
+-- the lines one after another are those of the answer
+module _ (text : List ℕ) (rules : RuleLines) (backs : List BackTable) (believed : ℕ)
+    (behind named texts counted last : List Line) where
+  abbrev tables : List TextLink
+  tables = map text_link_loaded backs
+
+  abbrev links : List Link
+  links = map link_loaded backs
+
+  abbrev own : List Line
+  own = text_lines text rules links
+
+  texts_are : behind ≡ behind_lines [] tables → named ≡ behind ++ Rules ∷ [] →
+      texts ≡ named ++ own → texts ≡ basis_lines text rules tables
+  texts_are first rule more =
+      more ∙ ap (λ (l : List Line). l ++ own) (rule ∙ ap (λ (l : List Line). l ++ Rules ∷ []) first)
+      ∙ append_assoc (behind_lines [] tables) (Rules ∷ []) own
+      ∙ ap (λ (ls : List Link). behind_lines [] tables ++ Rules ∷ text_lines text rules ls)
+      (sym (links_loaded backs))
+
+  pub all_told : behind ≡ behind_lines [] tables → named ≡ behind ++ Rules ∷ [] →
+      texts ≡ named ++ own → believed ≡ belief_among texts →
+      counted ≡ texts ++ Believed believed ∷ [] →
+      last ≡ counted ++ Side White (strength_over rules links believed White)
+      ∷ Side Black (strength_over rules links believed Black) ∷ [] →
+      last ≡ premise_lines text rules tables
+  all_told first rule more is count sides =
+      sides
+      ∙ ap (λ (l : List Line). l ++ Side White (strength_over rules links believed White)
+      ∷ Side Black (strength_over rules links believed Black) ∷ []) count
+      ∙ append_assoc texts (Believed believed ∷ [])
+      (Side White (strength_over rules links believed White)
+      ∷ Side Black (strength_over rules links believed Black) ∷ [])
+      ∙ ap (λ (n : ℕ). texts ++ last_lines rules links n) is
+      ∙ ap (λ (l : List Line). l ++ last_lines rules links (belief_among l))
+      (texts_are first rule more)
+      ∙ ap (λ (ls : List Link). basis_lines text rules tables
+      ++ last_lines rules ls (belief_among (basis_lines text rules tables)))
+      (sym (links_loaded backs))

@@ -1,5 +1,5 @@
 -- How many of the lines tell of belief: as many as exit lines are believed.
-use Rattle.std.proofs.Common.{◌≡◌, ◌+◌, ◌++◌, ◌∷◌, ◌∙◌, [], ℕ, List, All, ap, ap₂, arith, cond, length, refl, sym}
+use Rattle.std.proofs.Common.{◌≡◌, ◌+◌, ◌++◌, ◌∷◌, ◌∙◌, [], ℕ, List, All, ap, ap₂, arith, cond, length, refl, sym, zero-add}
 use Rattle.std.specs.Prelude.{Ok, count_by}
 use Rattle.std.proofs.lemmas.List.Elements.{All-head, All-tail}
 use Rattle.std.proofs.lemmas.List.Sums.{sum_by-append, sum_by-cons}
@@ -58,7 +58,7 @@ count_behind before (t ∷ tables) read =
     let lines = text_lines t.text t.link.rules before in
     count_both (Back (length before) ∷ lines) (behind_lines (before ++ t.link ∷ []) tables)
     ∙ ap₂ (λ (m n : ℕ). m + n)
-    (count_first (Back (length before)) lines
+    (count_first (Back (length before)) lines ∙ zero-add (belief_among lines)
     ∙ count_text t.text t.link.rules before (All-head IsReadAs t tables read))
     (count_behind (before ++ t.link ∷ []) tables (All-tail IsReadAs t tables read))
 
@@ -70,7 +70,8 @@ belief_counted text rules tables read all =
     let lines = text_lines text rules (links_in tables) in
     count_both (behind_lines [] tables) (Rules ∷ lines)
     ∙ ap₂ (λ (m n : ℕ). m + n) (count_behind [] tables all)
-    (count_first Rules lines ∙ count_text text rules (links_in tables) read)
+    (count_first Rules lines ∙ zero-add (belief_among lines)
+    ∙ count_text text rules (links_in tables) read)
 
 -- where none is believed, none is of the tables and none of the rules
 pub none_counted : (text : List ℕ) (rules : RuleLines) (tables : List TextLink) →

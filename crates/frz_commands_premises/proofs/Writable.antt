@@ -2,6 +2,7 @@
 use Rattle.std.proofs.Common.{◌≡◌, ◌+◌, ◌≤◌, ◌++◌, ◌∷◌, [], ℕ, List, All, arith, length, refl}
 use Rattle.std.proofs.lemmas.List.{length-append, length-map}
 use Rattle.std.proofs.lemmas.List.Elements.{All-append, All-cons, All-head, All-nil, All-tail}
+use Rattle.frz_board.specs.declared.man.Colour.TheVariants.{White, Black}
 use Rattle.frz_sets.specs.Views.{RuleLines}
 use Rattle.frz_backs.specs.Links.{Link}
 use Rattle.frz_premises.specs.declared.basis.Basis.{Basis}
@@ -12,9 +13,9 @@ use Rattle.frz_premises.proofs.Lemmas.{all_tellable}
 use Rattle.frz_atlas_prelude.specs.declared.names.TheConstants.{MOST_BACKS}
 use Rattle.frz_exit_lines.specs.Numbers.{exit_numbers_of}
 use Rattle.frz_commands_premises.specs.declared.line.Line.{Line}
-use Rattle.frz_commands_premises.specs.declared.line.Line.TheVariants.{Back, Rules, Exit}
+use Rattle.frz_commands_premises.specs.declared.line.Line.TheVariants.{Back, Rules, Exit, Believed, Side}
 use Rattle.frz_commands_premises.specs.LineTexts.{IsWritable}
-use Rattle.frz_commands_premises.specs.PremiseLines.{TextLink, basis_lines, behind_lines, belief_among, last_lines, lines_by, links_in, premise_lines, text_lines}
+use Rattle.frz_commands_premises.specs.PremiseLines.{TextLink, basis_lines, behind_lines, belief_among, last_lines, lines_by, links_in, premise_lines, strength_over, text_lines}
 
 -- with more tables
 tellable_more : (m n : ℕ) (b : Basis) → m ≤ n → IsTellable m b → IsTellable n b
@@ -52,6 +53,15 @@ writable_behind before (t ∷ tables) few =
     (writable_text t.text t.link.rules before (omega (arith, few))))
     (writable_behind (before ++ t.link ∷ []) tables (omega (arith, few, longer)))
 
+writable_last : (rules : RuleLines) (links : List Link) (believed : ℕ) →
+    All IsWritable (last_lines rules links believed)
+writable_last rules links believed =
+    let white : Line = Side White (strength_over rules links believed White) in
+    let black : Line = Side Black (strength_over rules links believed Black) in
+    All-cons IsWritable (Believed believed) (white ∷ black ∷ []) tt
+    (All-cons IsWritable white (black ∷ []) tt
+    (All-cons IsWritable black [] tt (All-nil IsWritable)))
+
 -- of as many tables as a command takes
 pub all_writable : (text : List ℕ) (rules : RuleLines) (tables : List TextLink) →
     length tables ≤ MOST_BACKS → All IsWritable (premise_lines text rules tables)
@@ -66,5 +76,4 @@ all_writable text rules tables few =
     (writable_behind [] tables (omega (arith, few)))
     (All-cons IsWritable Rules texts tt
     (writable_text text rules links (omega (arith, few, many)))))
-    (All-cons IsWritable _ _ tt (All-cons IsWritable _ _ tt (All-cons IsWritable _ _ tt
-    (All-nil IsWritable))))
+    (writable_last rules links believed)

@@ -1,5 +1,5 @@
 -- What the answers of `premises RULES BACK ..` mean.
-use Rattle.std.specs.Prelude.{◌≡◌, ◌++◌, ℕ, false, List, [], ◌∷◌, length, map, slice_get, Some, Ok, ⊤}
+use Rattle.std.specs.Prelude.{◌≡◌, ◌++◌, ℕ, true, false, List, [], ◌∷◌, length, map, slice_get, Some, Ok, ⊤}
 use Rattle.frz_board.specs.declared.man.Colour.{Colour}
 use Rattle.frz_board.specs.Boards.{Board}
 use Rattle.frz_sets.specs.Views.{ExitLine, RuleLines}

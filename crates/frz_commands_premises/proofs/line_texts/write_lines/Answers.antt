@@ -8,12 +8,12 @@ loop-line-init g c = nothing_written _ _
 pub returns-in_err-write_one : goal.returns-in_err-write_one
 returns-in_err-write_one g c =
     gave_up c.from_residual.ensures.0
-    (cut_written _ _ _ _ _ _ c.loop-line-test.true c.index-lines-line.is c.loop-line.invariant
+    (cut_written _ _ _ _ _ _ c.loop-line-test.true c.line-item.is c.loop-line.invariant
     c.in_err-write_one.ensures.failed)
 
 pub loop-line-preserved : goal.loop-line-preserved
 loop-line-preserved g c =
-    more_written _ _ _ _ _ _ c.loop-line-test.true c.index-lines-line.is c.loop-line.invariant
+    more_written _ _ _ _ _ _ c.loop-line-test.true c.line-item.is c.loop-line.invariant
     c.in_ok-write_one.ensures.ok
 
 pub returns : goal.returns

@@ -1,0 +1,47 @@
+use Rattle.std.proofs.Common.{◌≡◌, ◌≤◌, ◌+◌, ◌∙◌, ◌++◌, ◌∷◌, [], ℕ, List, ap, append_assoc, append-nil, arith, map, sym, take}
+use Rattle.frz_sets.specs.Sets.{size_of}
+use Rattle.frz_sets.specs.Views.{RuleLines}
+use Rattle.frz_backs.specs.Loaded.{link_loaded}
+use Rattle.frz_commands_premises.specs.declared.line.Line.{Line}
+use Rattle.frz_commands_premises.specs.declared.line.Line.TheVariants.{Back}
+use Rattle.frz_commands_premises.specs.PremiseLines.{behind_lines, text_link_loaded, text_lines}
+use Rattle.frz_commands_premises.proofs.Adding.{behind_more}
+use Rattle.frz_commands_premises.proofs.Sizes.{sizes_here, sizes_more}
+use Rattle.frz_commands_premises.proofs.lines.add_behind.Goals as goal
+
+pub loop-place-init : goal.loop-place-init
+unfolding behind_lines
+loop-place-init g c = record {
+  added = sym (append-nil c.args.lines.now.items);
+  steps = omega arith;
+  later = omega arith;
+}
+
+pub returns-in_err-add_text-clause-steps : goal.returns-in_err-add_text-clause-steps
+returns-in_err-add_text-clause-steps g c =
+    let here = sizes_here c.args.backs.now c.loop-place.place c.index-backs-place.result
+    c.loop-place-test.true c.index-backs-place.is in
+    let same = ap (λ (r : RuleLines). size_of r.groups) c.rules.ensures.rules in
+    let before = c.loop-place.invariant.steps in
+    let more = c.in_err-add_text.ensures.steps in
+    omega (arith, here, same, before, more)
+
+pub loop-place-preserved : goal.loop-place-preserved
+loop-place-preserved g c =
+    let backs = c.args.backs.now in
+    let place = c.loop-place.place in
+    let back = c.index-backs-place.result in
+    let same = ap (λ (r : RuleLines). size_of r.groups) c.rules.ensures.rules in
+    let sizes = sizes_more backs place back c.loop-place-test.true c.index-backs-place.is in
+    let before = c.loop-place.invariant.steps in
+    let more = c.in_ok-add_text.ensures.steps in
+    record {
+      added =
+          c.in_ok-add_text.ensures.added
+          ∙ behind_more backs place back c.args.lines.now.items c.loop-place.lines.items
+          c.push.new.self.items c.text.result.now c.rules.result.now c.loop-place-test.true
+          c.index-backs-place.is c.loop-place.invariant.added c.in_ok-push.ensures.items
+          c.text.ensures c.rules.ensures.rules;
+      steps = omega (arith, same, sizes, before, more);
+      later = omega (arith, c.loop-place.invariant.later, c.in_ok-add_text.ensures.later);
+    }
