@@ -1,2 +1,0 @@
-pub mod Deciders
-pub mod Told
