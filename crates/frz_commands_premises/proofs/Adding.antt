@@ -13,6 +13,7 @@ use Rattle.frz_backs.specs.Loaded.{link_loaded}
 use Rattle.frz_backs.specs.Values.{atlas_value}
 use Rattle.frz_backs.proofs.Lemmas.{loaded_backs}
 use Rattle.frz_premises.specs.declared.sides.ExitValues.{ExitValues}
+use Rattle.frz_premises.specs.declared.sides.Strength.{Strength}
 use Rattle.frz_premises.specs.Sides.{exits_tell, strength_of}
 use Rattle.frz_premises.specs.declared.basis.Basis.{Basis}
 use Rattle.frz_commands_premises.specs.declared.line.Line.{Line}
@@ -84,17 +85,19 @@ back_more backs place back within is =
     ∷ text_lines back.table.text back.table.rules l) links
 
 pub behind_more : (backs : List BackTable) (place : ℕ) (back : BackTable)
-    (old lines pushed : List Line) (text : List ℕ) (rules : RuleLines) → place < length backs →
+    (old lines pushed new : List Line) (text : List ℕ) (rules : RuleLines) → place < length backs →
     back ≡ get_or backs place back →
     lines ≡ old ++ behind_lines [] (map text_link_loaded (take place backs)) →
     pushed ≡ lines ++ Back place ∷ [] → text ≡ back.table.text → rules ≡ back.table.rules →
-    pushed ++ text_lines text rules (map link_loaded (take place backs))
-    ≡ old ++ behind_lines [] (map text_link_loaded (take (place + 1) backs))
-behind_more backs place back old lines pushed text rules within is so_far push is_text is_rules =
+    new ≡ pushed ++ text_lines text rules (map link_loaded (take place backs)) →
+    new ≡ old ++ behind_lines [] (map text_link_loaded (take (place + 1) backs))
+behind_more backs place back old lines pushed new text rules within is so_far push is_text
+    is_rules added =
     let links = map link_loaded (take place backs) in
     let front = behind_lines [] (map text_link_loaded (take place backs)) in
     let own = text_lines back.table.text back.table.rules links in
-    ap₂ (λ (t : List ℕ) (r : RuleLines). pushed ++ text_lines t r links) is_text is_rules
+    added
+    ∙ ap₂ (λ (t : List ℕ) (r : RuleLines). pushed ++ text_lines t r links) is_text is_rules
     ∙ ap (λ (l : List Line). l ++ own) (push ∙ ap (λ (l : List Line). l ++ Back place ∷ []) so_far)
     ∙ append_assoc (old ++ front) (Back place ∷ []) own
     ∙ append_assoc old front (Back place ∷ own)
@@ -110,6 +113,15 @@ strength_told rules used backs asked believed values side same_rules same_backs 
     ap (λ (v : ExitValues). strength_of rules believed v side)
     (e ∙ ap₂ (λ (r : RuleLines) (bs : List BackCodes). exits_tell rules (λ q. atlas_value r bs q))
     same_rules (ap (map loaded_back) same_backs ∙ sym (loaded_backs backs)))
+
+-- the lines of both sides
+pub sides_more : (old first last : List Line) (white black w b : Strength) →
+    first ≡ old ++ Side White white ∷ [] → last ≡ first ++ Side Black black ∷ [] → white ≡ w →
+    black ≡ b → last ≡ old ++ Side White w ∷ Side Black b ∷ []
+sides_more old first last white black w b one both is_white is_black =
+    both ∙ ap (λ (l : List Line). l ++ Side Black black ∷ []) one
+    ∙ append_assoc old (Side White white ∷ []) (Side Black black ∷ [])
+    ∙ ap₂ (λ (s t : Strength). old ++ Side White s ∷ Side Black t ∷ []) is_white is_black
 
 -- the lines one after another are those of the answer
 module _ (text : List ℕ) (rules : RuleLines) (backs : List BackTable) (believed : ℕ)

@@ -1,9 +1,8 @@
 -- How `premises` ends, by what was read of the rules and found of the tables behind.
-use Rattle.std.proofs.Common.{◌≡◌, refl, sym, ap, subst, ◌∙◌, ℕ, ◌+◌, ◌*◌, ◌≤◌, ◌∷◌, List, [], All, length, map, Option, Some, Result, Err, Ok, arith, false}
+use Rattle.std.proofs.Common.{◌≡◌, refl, sym, ap, subst, ℕ, ◌+◌, ◌*◌, ◌≤◌, ◌∷◌, List, [], All, length, map, Option, Some, Result, Err, Ok, arith, false}
 use Rattle.std.specs.Prelude.{flat_map, sum_by}
 use Rattle.std.proofs.lemmas.List.{length-map}
 use Rattle.frz_rules.specs.Text.{rules_of}
-use Rattle.frz_sets.specs.Sets.{size_of}
 use Rattle.frz_sets.specs.Views.{RuleLines}
 use Rattle.frz_store.specs.Files.{Files}
 use Rattle.frz_store.specs.Outside.{Rose}
@@ -13,7 +12,7 @@ use Rattle.frz_table.specs.Possible.{MayHold}
 use Rattle.frz_answer.specs.declared.end.End.{End}
 use Rattle.frz_answer.specs.declared.status.Status.TheVariants.{Success}
 use Rattle.frz_answer.specs.Ends.{Ran, Said}
-use Rattle.frz_answer.specs.Jobs.{Costs, WithinCosts}
+use Rattle.frz_answer.specs.Jobs.{Costs, Never, WithinCosts}
 use Rattle.frz_answer.specs.Statuses.{OneOf}
 use Rattle.frz_answer.specs.World.{World, world, Agrees, spent}
 use Rattle.frz_answer.proofs.Lemmas.{Begun, Found, fine_store, quiet_both, said}
@@ -37,13 +36,12 @@ use Rattle.frz_atlas_prelude.specs.declared.names.TheConstants.{MOST_BACKS}
 use Rattle.frz_atlas_prelude.specs.BackLines.{back_status}
 use Rattle.frz_atlas_prelude.specs.Ending.{EndsAt, HasSmallPlace}
 use Rattle.frz_atlas_prelude.specs.Names.{has_twice}
-use Rattle.frz_atlas_prelude.specs.Tables.{AreTablesIn}
 use Rattle.frz_atlas_prelude.proofs.Lemmas.{AnswersAt, Holds, MayEndAt, as_many, ended_at, holds, judged_exact, may_hold_there, place_refused}
 use Rattle.frz_commands_premises.specs.declared.line.Line.{Line}
 use Rattle.frz_commands_premises.specs.Finding.{FindsLines, FindsNone, WithinFinding}
 use Rattle.frz_commands_premises.specs.LineTexts.{IsWritable, line_text}
-use Rattle.frz_commands_premises.specs.PremiseLines.{premises_text, text_link_of}
-use Rattle.frz_commands_premises.specs.Premises.{IsToldAt, found, if_rules, no_back, no_rules, premises_costs, size_by}
+use Rattle.frz_commands_premises.specs.PremiseLines.{text_link_of}
+use Rattle.frz_commands_premises.specs.Premises.{found, if_rules, no_back, no_rules, premises_costs, size_by}
 use Rattle.frz_commands_premises.specs.Premising.{premising_at}
 use Rattle.frz_commands_premises.proofs.Once.{held_rules, some_told}
 use Rattle.frz_commands_premises.proofs.Writable.{all_writable}
@@ -149,11 +147,14 @@ module _ (rules : List ℕ) (behind : List (List ℕ)) (apart : has_twice (rules
         (subst (λ (x : Result RuleLines Refusal). WithinCosts (costs_by x (Some text) helds)
         (spent start) (spent done)) (sym (ap or_fault accepted)) by_lines))
 
+    reads_once : (premising_at rules behind).needs.reads ≡ Never → ⊥
+    reads_once e = cc
+
     abbrev at_files : (helds : List (Option (List ℕ)))
         (h : Holds old.files rules behind (Some text) helds) (files : Files) (left : List ℕ)
         → Agrees start files left → Found (premising_at rules behind) files left start
     at_files helds h files left agrees =
-        found_where (premising_at rules behind) h.all.files files left start (λ e. cc)
+        found_where (premising_at rules behind) h.all.files files left start reads_once
         h.all.agrees agrees
 
     -- the premises are told

@@ -1,18 +1,17 @@
 -- Exact tables, with their texts: each text gives the rules of its table, and those before a table are
 -- exact too.
-use Rattle.std.proofs.Common.{◌≡◌, ◌+◌, ◌++◌, ◌∷◌, ◌∙◌, [], ℕ, List, All, Option, Some, ap, ap₂, append-nil, append_assoc, refl, subst, sym}
-use Rattle.std.specs.Prelude.{Ok, map, sum_by}
+use Rattle.std.proofs.Common.{◌≡◌, ◌+◌, ◌++◌, ◌∷◌, ◌∙◌, [], ℕ, List, All, Some, ap, ap₂, refl, sym}
+use Rattle.std.specs.Prelude.{map, sum_by}
 use Rattle.std.proofs.lemmas.List.Elements.{All-cons, All-nil}
 use Rattle.std.proofs.lemmas.List.Sums.{sum_by-cons}
-use Rattle.frz_rules.specs.Text.{rules_of}
 use Rattle.frz_sets.specs.Sets.{size_of}
-use Rattle.frz_table.specs.Opening.{opened, table_format}
+use Rattle.frz_table.specs.Opening.{table_format}
 use Rattle.frz_table.proofs.Lemmas.{belongs}
 use Rattle.frz_check.specs.Kept.{opened_size}
 use Rattle.frz_chain.specs.Books.{Back}
 use Rattle.frz_chain.specs.FileOn.{back_of}
 use Rattle.frz_chain.specs.declared.back.BackTable.{BackTable}
-use Rattle.frz_backs.specs.Links.{AreExact, AreExactOver, Link}
+use Rattle.frz_backs.specs.Links.{AreExactOver, Link}
 use Rattle.frz_backs.specs.Loaded.{link_loaded}
 use Rattle.frz_atlas.specs.Behind.{AreJudged, AreJudgedOver, TableBytes, kind_of, link_of}
 use Rattle.frz_atlas.specs.Costs.{steps_of}

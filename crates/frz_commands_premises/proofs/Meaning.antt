@@ -1,5 +1,5 @@
 -- What the answers of `premises` mean.
-use Rattle.std.proofs.Common.{◌≡◌, ◌++◌, ◌∷◌, ◌∙◌, [], ℕ, List, All, ap, append_assoc, append-nil, refl, subst, sym}
+use Rattle.std.proofs.Common.{◌≡◌, ◌++◌, ◌∷◌, [], ℕ, List, All, ap, append_assoc, refl, subst, sym}
 use Rattle.std.specs.Prelude.{Ok, map}
 use Rattle.std.proofs.lemmas.List.Elements.{All-head, All-tail}
 use Rattle.frz_exits.specs.Books.{value_by}
@@ -10,7 +10,7 @@ use Rattle.frz_store.specs.Bytes.{HoldsBytes}
 use Rattle.frz_store.specs.Files.{Files}
 use Rattle.frz_backs.specs.Links.{AreExact, Link, backs_of}
 use Rattle.frz_backs.specs.Values.{atlas_value}
-use Rattle.frz_atlas.specs.Behind.{AreJudged, link_of}
+use Rattle.frz_atlas.specs.Behind.{AreJudged}
 use Rattle.frz_atlas.specs.declared.fault.BackFault.{BackFault}
 use Rattle.frz_atlas.specs.declared.fault.BackFault.TheVariants.{Refused, Wrong}
 use Rattle.frz_atlas.proofs.Lemmas.{judged_exact}

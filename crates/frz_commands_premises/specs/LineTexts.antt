@@ -1,6 +1,5 @@
 -- The text of each line that `premises` writes.
 use Rattle.std.specs.Prelude.{ℕ, ◌+◌, ◌<◌, List, ◌++◌, codes, decimal, ⊤}
-use Rattle.frz_board.specs.declared.man.Colour.{Colour}
 use Rattle.frz_fen.specs.Writing.{fen_text}
 use Rattle.frz_prelude.specs.BoundLines.{side_name}
 use Rattle.frz_premises.specs.declared.basis.Basis.{Basis}

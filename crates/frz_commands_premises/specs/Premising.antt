@@ -1,6 +1,5 @@
 -- What `premises RULES BACK ..` is to do.
 use Rattle.std.specs.Prelude.{ℕ, List, [], ◌∷◌, map, true, false}
-use Rattle.frz_store.specs.Files.{Files}
 use Rattle.frz_answer.specs.declared.status.Status.TheVariants as statuses
 use Rattle.frz_answer.specs.Jobs.{Job, Once, plain, WithinCosts}
 use Rattle.frz_answer.specs.Words.{taking, unless}

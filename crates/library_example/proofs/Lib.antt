@@ -1,2 +1,3 @@
-mod Moves
-mod Told
+mod KeptCodes
+mod LineEnds
+mod LinePlayed

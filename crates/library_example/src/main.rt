@@ -5,19 +5,21 @@
 ghost use Rattle.std.specs.Prelude.{◌≡◌, ◌<◌};
 ghost use Rattle.frz_fide.specs.Valid.{IsValid};
 
-mod line;
+mod laws;
 mod solved;
 
-use frz_board::{Colour, Move, Position, move_text};
+use frz_board::{Colour, Position};
 use frz_fen::read_fen;
 use frz_game::Bound;
 use frz_rules::RulesError;
 use frz_steps::Steps;
+use frz_store::OutputSink;
 use solved::Solved;
 use std::alloc::{AllocError, Global};
+use std::env;
+use std::io::{self, ErrorKind};
 use std::marker::Brand;
 use std::sync::ledger::{Blank, Ledger};
-use std::{env, io};
 
 /// A rook on h1 or h8 and a king on b6 against a king on a8 or b8.
 const RULES: &[u8] = b"freezer 1
@@ -26,14 +28,6 @@ group white 1 R:h1,h8
 group black 1 K:a8,b8
 ";
 
-/// Prints moves by their coordinates.
-fn print_moves(rt: &impl Print, moves: &[Move]) -> io::Result<()> {
-    for m in moves {
-        print!(rt; " {}", move_text(*m).as_str())?;
-    }
-    println!(rt;)
-}
-
 fn name(side: Colour) -> &'static str {
     match side {
         Colour::White => "white",
@@ -41,7 +35,26 @@ fn name(side: Colour) -> &'static str {
     }
 }
 
-/// Prints the bound of a side, and the line that keeps it; a failure (`none`) has no line.
+/// Plays and prints the line of a side that wins or holds at the position: its bound, the moves, and
+/// the end.
+fn play<L: Ledger>(
+    rt: &impl Print,
+    alloc: Global,
+    solved: &Solved,
+    side: Colour,
+    p: &Position,
+    steps: &mut Steps<L>,
+) -> io::Result<()>
+    requires { IsValid p.now }
+{
+    let mut out = OutputSink::new(io::writer(rt));
+    match solved.line(alloc, side, p, &mut out, steps) {
+        Ok(_) => Ok(()),
+        Err(_) => Err(io::Error::from(ErrorKind::Other)),
+    }
+}
+
+/// Prints what a side has at the position. Where it has a bound to play for, that is its line.
 fn tell_side<L: Ledger>(
     rt: &impl Print,
     alloc: Global,
@@ -52,15 +65,11 @@ fn tell_side<L: Ledger>(
 ) -> io::Result<()>
     requires { IsValid p.now }
 {
-    print!(rt; "{}", name(side))?;
     match solved.bound(side, p) {
-        None => return println!(rt; ": outside the set"),
-        Some(Bound::Fails(_)) => return println!(rt; " none"),
-        Some(Bound::Holds) => print!(rt; " holds:")?,
-        Some(Bound::Wins(plies)) => print!(rt; " wins within {plies}:")?,
+        None => println!(rt; "{}: outside the set", name(side)),
+        Some(Bound::Fails(_)) => println!(rt; "{} none", name(side)),
+        Some(_) => play(rt, alloc, solved, side, p, steps),
     }
-    let moves = solved.line(alloc, side, p, steps)?;
-    print_moves(rt, &moves)
 }
 
 /// Prints the bounds and lines of the position that a FEN stands for, or why it stands for none.

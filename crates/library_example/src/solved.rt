@@ -1,26 +1,37 @@
 //! The tables of a rules text in memory: solved once, and asked as often as one likes.
 
-ghost use Rattle.std.specs.Prelude.{◌≡◌, ◌≤◌, ◌↔◌, ℕ, Ok, length, IsNone, IfOk, IfSome};
+ghost use Rattle.std.specs.Prelude.{◌≡◌, ◌↔◌, Ok, Err, IsNone, IfOk, IfSome};
+ghost use Rattle.frz_board.specs.declared.man.Colour.{Colour};
 ghost use Rattle.frz_fide.specs.Valid.{IsValid};
 ghost use Rattle.frz_sets.specs.Sound.{IsSound};
+ghost use Rattle.frz_store.specs.Told.{sink_of};
 ghost use Rattle.frz_rules.specs.Text.{rules_of};
 ghost use Rattle.frz_index.specs.Members.{Member};
-ghost use Rattle.frz_arena.specs.declared.bound.Bound.TheVariants.{Wins};
+ghost use Rattle.frz_arena.specs.declared.bound.Bound.{Bound};
 ghost use Rattle.frz_exits.specs.Books.{value_by};
-ghost use Rattle.frz_game.specs.Bounds.{IsBoundAt};
+ghost use Rattle.frz_graph.specs.EntryCodes.{of_side};
+ghost use Rattle.frz_game.specs.Bounds.{IsBoundAt, IsTableOf};
 ghost use Rattle.frz_game.specs.Meaning.{Means};
+ghost use Rattle.frz_ways.specs.declared.end.LineFault.TheVariants.{Outside};
+ghost use Rattle.frz_ways.specs.declared.session_end.PlayFault.TheVariants.{Line};
+ghost use Rattle.library_example.specs.Lines.{PlaysLine};
 
-use crate::line::play;
+use crate::laws::bounds_kept_in_lines;
+use frz_arena::laws::sessions::sides_move_in_turn;
 use frz_board::{Colour, Move, NoMemory, Position};
 use frz_exits::RuleBook;
+use frz_fide::laws::all_listed;
 use frz_game::laws::meaning::bounds_mean;
+use frz_game::laws::numbers::{different_arms, numbered};
 use frz_game::laws::tables::tables;
 use frz_game::{Bound, Entries, Game, Pair, bound_of};
 use frz_index::Set;
 use frz_retro::Workshop;
-use frz_rules::{Rules, RulesError, read_rules};
+use frz_rules::{Rules, RulesError, Value, read_rules};
 use frz_steps::Steps;
-use std::alloc::{AllocError, Global};
+use frz_store::{Sink, SureSource};
+use frz_ways::{Finish, LineFault, Opponent, PlayFault, Player, Reader, play_loaded};
+use std::alloc::Global;
 use std::marker::Model;
 use std::sync::ledger::Ledger;
 
@@ -44,6 +55,16 @@ impl Model for Solved {
     ghost invariant = { λ s. IsSolved s.rules s.set s.white s.black };
 }
 
+/// The game of these rules over the numbers of their set, by their own book.
+fn game_by<'a>(set: &'a Set, rules: &'a Rules, book: &'a RuleBook<'a>) -> Game<'a, RuleBook<'a>>
+    requires { set.now ≡ rules.now.groups }
+    ensures set { result.set.now ≡ set.now }
+    ensures rules { result.rules.now ≡ rules.now }
+    ensures book { result.book.now.rules.now ≡ book.now.rules.now }
+{
+    Game { set, rules, book }
+}
+
 impl Solved {
     /// Reads a rules text, and solves its game for both sides. A text that is refused gives its
     /// fault.
@@ -55,10 +76,7 @@ impl Solved {
         ensures { IfOk result (λ solved. rules_of text.now ≡ Ok solved) }
     {
         let rules = read_rules(alloc, text)?;
-        match Solved::by_rules(alloc, rules, steps) {
-            Ok(solved) => Ok(solved),
-            Err(NoMemory) => Err(RulesError::NoMemory),
-        }
+        Solved::by_rules(alloc, rules, steps).map_err(|_| RulesError::NoMemory)
     }
 
     /// Solves the game of these rules for both sides.
@@ -74,11 +92,7 @@ impl Solved {
         let mut white = Workshop::new(alloc, set.size())?;
         let mut black = Workshop::new(alloc, set.size())?;
         let book = RuleBook::new(&rules);
-        let game = Game {
-            set: &set,
-            rules: &rules,
-            book: &book,
-        };
+        let game = game_by(&set, &rules, &book);
         white.run_game(&game, Colour::White, steps);
         black.run_game(&game, Colour::Black, steps);
         Ok(Solved {
@@ -87,6 +101,15 @@ impl Solved {
             white,
             black,
         })
+    }
+
+    /// The tables of both sides.
+    fn codes(&self) -> Pair<'_>
+        ensures { (side : Colour) → IsTableOf self.now (value_by self.now) side
+            (of_side side result.white.now result.black.now) }
+    {
+        let (white, black) = (self.white.entries(), self.black.entries());
+        Pair { white, black }
     }
 
     /// The bound of a side at a position. It is `None` exactly where the position is outside the
@@ -100,42 +123,45 @@ impl Solved {
     {
         tables();
         bounds_mean();
-        let codes = Pair {
-            white: self.white.entries(),
-            black: self.black.entries(),
-        };
         match self.set.number(p) {
             None => None,
-            Some(number) => bound_of(codes.entry(side, number)),
+            Some(number) => bound_of(self.codes().entry(side, number)),
         }
     }
 
-    /// The line from a position by the codes of a side. Where the position is outside the set, it
-    /// has no move; where the side wins within n plies, it has at most n moves.
-    pub fn line<L: Ledger>(
+    /// Plays the line from a position by the codes of a side, and writes it: the side's bound, the
+    /// moves, and the end, one a line.
+    pub fn line<O: Sink, L: Ledger>(
         &self,
         alloc: Global,
         side: Colour,
         p: &Position,
+        out: &mut O,
         steps: &mut Steps<L>,
-    ) -> Result<Vec<Move>, AllocError>
+    ) -> Result<Finish, PlayFault>
         requires { IsValid p.now }
-        ensures { (n : ℕ) → IsBoundAt self.now (value_by self.now) side p.now (Wins n) →
-            IfOk result (λ moves. length moves.items ≤ n) }
+        ensures outside { (result ≡ Err (Line Outside)) ↔ (Member self.now.groups p.now → ⊥) }
+        ensures untouched { result ≡ Err (Line Outside) → out.new ≡ out.old }
+        ensures line { (bound : Bound) → Member self.now.groups p.now →
+            IsBoundAt self.now (value_by self.now) side p.now bound →
+            PlaysLine self.now side p.now bound result
+            (sink_of O.Sink out.old) (sink_of O.Sink out.new) }
     {
+        numbered();
+        different_arms();
+        all_listed();
+        sides_move_in_turn::<Position, Move, Value>();
+        bounds_kept_in_lines();
+        let Some(start) = self.set.number(p) else {
+            return Err(PlayFault::Line(LineFault::Outside));
+        };
         let book = RuleBook::new(&self.rules);
-        let game = Game {
-            set: &self.set,
-            rules: &self.rules,
-            book: &book,
-        };
-        let codes = Pair {
-            white: self.white.entries(),
-            black: self.black.entries(),
-        };
-        match self.set.number(p) {
-            None => Ok(Vec::new(alloc)),
-            Some(start) => play(alloc, &game, &codes, side, start, steps),
-        }
+        let game = game_by(&self.set, &self.rules, &book);
+        let codes = self.codes();
+        let opponent = Opponent::Codes;
+        let player = Player { side, opponent };
+        let reader = &mut Reader::new();
+        let input = &mut SureSource::new(Vec::new(alloc));
+        play_loaded(&game, &codes, player, start, reader, input, out, steps)
     }
 }

@@ -1,10 +1,7 @@
-use Rattle.std.proofs.Common.{◌≡◌, ◌≤◌, ◌+◌, ◌∙◌, ◌++◌, ◌∷◌, [], ℕ, List, ap, append_assoc, append-nil, arith, map, sym, take}
+use Rattle.std.proofs.Common.{ap, append-nil, arith, sym}
 use Rattle.frz_sets.specs.Sets.{size_of}
 use Rattle.frz_sets.specs.Views.{RuleLines}
-use Rattle.frz_backs.specs.Loaded.{link_loaded}
-use Rattle.frz_commands_premises.specs.declared.line.Line.{Line}
-use Rattle.frz_commands_premises.specs.declared.line.Line.TheVariants.{Back}
-use Rattle.frz_commands_premises.specs.PremiseLines.{behind_lines, text_link_loaded, text_lines}
+use Rattle.frz_commands_premises.specs.PremiseLines.{behind_lines}
 use Rattle.frz_commands_premises.proofs.Adding.{behind_more}
 use Rattle.frz_commands_premises.proofs.Sizes.{sizes_here, sizes_more}
 use Rattle.frz_commands_premises.proofs.lines.add_behind.Goals as goal
@@ -37,11 +34,11 @@ loop-place-preserved g c =
     let more = c.in_ok-add_text.ensures.steps in
     record {
       added =
-          c.in_ok-add_text.ensures.added
-          ∙ behind_more backs place back c.args.lines.now.items c.loop-place.lines.items
-          c.push.new.self.items c.text.result.now c.rules.result.now c.loop-place-test.true
-          c.index-backs-place.is c.loop-place.invariant.added c.in_ok-push.ensures.items
-          c.text.ensures c.rules.ensures.rules;
+          behind_more backs place back c.args.lines.now.items c.loop-place.lines.items
+          c.push.new.self.items c.add_text.new.lines.items c.text.result.now c.rules.result.now
+          c.loop-place-test.true c.index-backs-place.is c.loop-place.invariant.added
+          c.in_ok-push.ensures.items c.text.ensures c.rules.ensures.rules
+          c.in_ok-add_text.ensures.added;
       steps = omega (arith, same, sizes, before, more);
       later = omega (arith, c.loop-place.invariant.later, c.in_ok-add_text.ensures.later);
     }

@@ -1,4 +1,4 @@
-use Rattle.std.proofs.Common.{◌≡◌, ◌∙◌, ◌++◌, ◌∷◌, [], ℕ, List, add-one, ap, append_assoc, append-nil, arith, get_or, sym, take}
+use Rattle.std.proofs.Common.{◌∙◌, ◌++◌, ◌∷◌, [], ℕ, List, add-one, ap, append_assoc, append-nil, arith, get_or, sym, take}
 use Rattle.std.proofs.lemmas.List.{take_all}
 use Rattle.frz_commands_premises.specs.declared.line.Line.{Line}
 use Rattle.frz_commands_premises.specs.declared.line.Line.TheVariants.{Exit}

@@ -1,4 +1,4 @@
-use Rattle.std.proofs.Common.{◌∙◌, ap, sym}
+use Rattle.std.proofs.Common.{◌∙◌, ap}
 use Rattle.std.specs.Prelude.{List}
 use Rattle.frz_rules.proofs.Lemmas.{text_sound}
 use Rattle.frz_commands_premises.specs.declared.line.Line.{Line}
