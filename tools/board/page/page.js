@@ -44,8 +44,7 @@ function showGame() {
   at("game").replaceChildren(
     ...state.game.map((step, place) => {
       const item = document.createElement("li");
-      const kind = `${place === state.place ? "here" : ""} ${step.last ? "last" : ""}`.trim();
-      const button = makeButton(step.text ?? "start", kind, () => go(place));
+      const button = makeButton(step.text ?? "start", place === state.place ? "here" : "", () => go(place));
       if (place === state.place) button.setAttribute("aria-current", "step");
       item.append(button);
       return item;
@@ -69,7 +68,7 @@ function show() {
   showBounds(position, position.table ? tableShown().name : "");
   listMoves();
   showGame();
-  showWays(position, position.table !== null && tableShown().ways);
+  showWays(position.table !== null && tableShown().ways);
   if (document.activeElement !== at("fen")) at("fen").value = position.fen;
 }
 
@@ -149,13 +148,9 @@ function lay(square) {
   if (found.length > 1) at("moves").querySelector("button").focus();
 }
 
-// The game with these steps behind the position that is shown.
-function gameWith(steps) {
-  return numbered([...state.game.slice(0, state.place + 1), ...steps]);
-}
-
+// Puts these steps behind the position that is shown.
 function put(steps) {
-  state.game = gameWith(steps);
+  state.game = numbered([...state.game.slice(0, state.place + 1), ...steps]);
   showGame();
 }
 
@@ -232,11 +227,7 @@ function listen() {
   document.addEventListener("copy", onCopy);
   document.addEventListener("paste", onPaste);
   document.addEventListener("pointerdown", (event) => event.target.closest("#on") || playOn(false));
-  listenToWays({
-    position: () => state.position,
-    put,
-    play: (steps) => go(state.place + steps.length, gameWith(steps)),
-  });
+  listenToWays({ position: () => state.position, put });
 }
 
 const KINDS = { plain: "a table", chained: "a chained table", leaning: "a table over others" };
