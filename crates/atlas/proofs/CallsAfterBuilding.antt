@@ -23,7 +23,7 @@ use Rattle.frz_commands_atlas.specs.Building.{MakesAtlas, MeansBuild, building_a
 use Rattle.frz_commands_atlas.specs.CheckMeans.{HoldsAtlas, MeansCheck, checking_at}
 use Rattle.atlas.specs.Calls.{build, check, query, Succeeds, TellsBoundsOver}
 use Rattle.atlas.specs.Commands.{job_of}
-use Rattle.atlas.proofs.Answering.{lawful_of}
+use Rattle.frz_commands_atlas.proofs.Lemmas.{build_lawful, check_lawful}
 use Rattle.atlas.proofs.CallsInTurn.{headline, of_names, of_words, queried, these_names}
 
 first_false : (b c : Bool) → (b || c) ≡ false → b ≡ false
@@ -92,7 +92,7 @@ module _ (rules table : List ℕ) (behind : List (List ℕ)) (files : Files) (a 
       let job : List ℕ × (List ℕ × List (List ℕ)) → Job = λ n. unless (has_twice words)
       (building_at n.0 n.1.0 n.1.1) in
       let taken = of_words files built.input a built.done job (build_names_of words) built.answer
-      ((lawful_of (build rules table behind)).means files built.input a built.bytes built.answer)
+      ((build_lawful (rules ∷ table ∷ behind)).means files built.input a built.bytes built.answer)
       in
       let n = taken.0 in
       let differ = of_names files built.input a built.done (building_at n.0 n.1.0 n.1.1)
@@ -154,7 +154,7 @@ module _ (rules table : List ℕ) (behind : List (List ℕ)) (files : Files) (a 
       let job : List ℕ × List (List ℕ) → Job = λ n. unless (has_twice names)
       (checking_at n.0 n.1) in
       let meant : (taking job (table_names_of names)).means a.files input b =
-      (lawful_of (check table behind)).means a.files input b bytes_after answer in
+      (check_lawful (table ∷ behind)).means a.files input b bytes_after answer in
       let of_some : (unless (has_twice names) (checking_at table behind)).means a.files input b =
       subst (λ (o : Option (List ℕ × List (List ℕ))). (taking job o).means a.files input b) made.1
       meant in
@@ -166,7 +166,7 @@ module _ (rules table : List ℕ) (behind : List (List ℕ)) (files : Files) (a 
   pub queried_after : (fen : List ℕ) (b : Answer)
       → Succeeds (query table fen) a.files b → TellsBoundsOver table behind fen a.files b.text
   queried_after fen b h =
-      let one = (lawful_of (check table behind)).one a.files [] in
+      let one = (check_lawful (table ∷ behind)).one a.files [] in
       let exact = headline table behind a.files one.0 (record {
         bytes = h.bytes;
         input = [];

@@ -31,7 +31,8 @@ use Rattle.frz_commands_atlas.specs.CheckMeans as checks
 use Rattle.frz_commands_atlas.specs.CheckMeans.{MeansCheck, TellsExactOver, checking_at}
 use Rattle.atlas.specs.Calls.{check, query, Succeeds, TellsBoundsOver}
 use Rattle.atlas.specs.Commands.{job_of}
-use Rattle.atlas.proofs.Answering.{lawful_of}
+use Rattle.frz_commands_atlas.proofs.Lemmas.{check_lawful}
+use Rattle.atlas.proofs.Queried.{query_lawful}
 use Rattle.atlas.proofs.ExactTables.{exact_contents, exact_opens, exact_tables}
 
 -- the names that words give are those words
@@ -90,7 +91,7 @@ headline table behind files a h =
     let job : List ℕ × List (List ℕ) → Job = λ names. unless (has_twice words)
     (checking_at names.0 names.1) in
     let taken = of_words files h.input a h.done job (table_names_of words) h.answer
-    ((lawful_of (check table behind)).means files h.input a h.bytes h.answer) in
+    ((check_lawful (table ∷ behind)).means files h.input a h.bytes h.answer) in
     let names = taken.0 in
     let differ = of_names files h.input a h.done (checking_at names.0 names.1) (has_twice words)
     taken.2 taken.3 in
@@ -107,7 +108,7 @@ module _ (table : List ℕ) (behind : List (List ℕ)) (files : Files) (are : Ho
       → TellsBoundsOver table behind fen files b.text
   queried h =
       let at = at_position files h.input b h.done (querying_at Atlas table) (fen_of fen) h.answer
-      ((lawful_of (query table fen)).means files h.input b h.bytes h.answer) in
+      ((query_lawful (table ∷ fen ∷ [])).means files h.input b h.bytes h.answer) in
       let means : MeansQuery Atlas table at.0 files b = at.2 in
       let kept : TellsKept Atlas table at.0 files b.text =
       subst (λ (s : Status). queries.MeansStatus Atlas table at.0 files s b.text) h.done
@@ -156,5 +157,5 @@ module _ (table : List ℕ) (behind : List (List ℕ)) (files : Files) (are : Ho
   queried_well input answer =
       of_position files input b (λ s. OneOf s (Success ∷ Fen ∷ Outside ∷ [])) refl
       (querying_at Atlas table) (fen_of fen) answer
-      ((lawful_of (query table fen)).means files input b are answer)
+      ((query_lawful (table ∷ fen ∷ [])).means files input b are answer)
       (λ p is means. query_status p b.status means.says)
