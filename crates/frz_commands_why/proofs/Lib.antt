@@ -1,2 +1,4 @@
 pub mod Deciders
+pub mod Places
+pub mod Loaded
 pub mod Told

@@ -1,6 +1,6 @@
 //! Which exit line or which table decided the value of a position outside a set.
-ghost use Rattle.std.specs.Prelude.{◌≡◌, ◌<◌, length, map, slice_get, IfSome};
-ghost use Rattle.std.specs.Option.{option_copied};
+ghost use Rattle.std.specs.Prelude.{◌≡◌, ◌<◌, length, map, IfSome};
+ghost use Rattle.std.specs.List.{position_from};
 ghost use Rattle.frz_fide.specs.Valid.{IsValid};
 ghost use Rattle.frz_index.specs.Membership.{is_member};
 ghost use Rattle.frz_sets.specs.Sound.{IsSound};
@@ -50,12 +50,22 @@ fn holds(set: &Set, q: &Bitboards) -> bool
 }
 
 /// The place of the first table whose set holds the position.
+fn first_holding(backs: &[BackTable], q: &Bitboards) -> Option<usize>
+    requires { IsValid q.now }
+    ensures place { result
+        ≡ position_from (λ back. is_member back.table.rules.groups q.now) 0 backs.now }
+    ensures below { IfSome result (λ place. place < length backs.now) }
+{
+    backs.iter().position(|back| holds(back.table.set(), q))
+}
+
+/// The same place, by what these tables are behind exit lines.
 fn holding_table(backs: &[BackTable], q: &Bitboards) -> Option<usize>
     requires { IsValid q.now }
     ensures place { result ≡ words.back_at (map loaded_back backs.now) q.now }
     ensures below { IfSome result (λ place. place < length backs.now) }
 {
-    backs.iter().position(|back| holds(back.table.set(), q))
+    first_holding(backs, q)
 }
 
 fn is_unknown(value: Value) -> bool
