@@ -1,7 +1,7 @@
 -- What was told of a number, from what was written piece by piece.
-use Rattle.std.proofs.Common.{◌≡◌, ◌≢◌, ℕ, ◌+◌, ◌%◌, ◌<◌, Bool, true, false, ◌&&◌, List, [], ◌++◌, Option, None, Some, Result, Ok, Err, IfOk, IfSome, nat_lt, inl, inr, refl, sym, ap, subst, ◌∙◌, arith}
+use Rattle.std.proofs.Common.{◌≡◌, ◌≢◌, ℕ, ◌+◌, ◌%◌, ◌<◌, Bool, true, false, ◌&&◌, List, [], ◌++◌, slice_index, Option, None, Some, Result, Ok, Err, IfOk, IfSome, nat_lt, inl, inr, refl, sym, ap, subst, ◌∙◌, arith}
 use Rattle.std.specs.Prelude.{◌==◌}
-use Rattle.std.proofs.lemmas.Bool.{eq-eqb, lt-ltb, ltb-false, eqb-false, false_from_ne_true}
+use Rattle.std.proofs.lemmas.Bool.{eq-eqb, eqb-false, lt-ltb}
 use Rattle.frz_board.specs.declared.man.Colour.{Colour}
 use Rattle.frz_board.specs.Boards.{Board}
 use Rattle.frz_board.specs.Moving.{Step}
@@ -26,7 +26,8 @@ use Rattle.frz_reasons.specs.declared.reason.Reason.{Reason}
 use Rattle.frz_reasons.specs.declared.reason.Reason.TheVariants.{Wrong, Mated, Renounced, Left}
 use Rattle.frz_reasons.specs.FailingGames.{EndsAt}
 use Rattle.frz_reasons.specs.LocalEntries.{wrong_at}
-use Rattle.frz_reasons.specs.ReasonTexts.{moves_text}
+use Rattle.frz_reasons.specs.FailingWays.{FailsFrom}
+use Rattle.frz_reasons.specs.ReasonTexts.{denials_text, moves_text}
 use Rattle.frz_reasons.specs.TellingDenials.{TellsDenials}
 use Rattle.frz_reasons.specs.TellingFailures.{TellsFailure}
 use Rattle.frz_commands_why.specs.declared.decider.Decider.{Decider}
@@ -34,24 +35,17 @@ use Rattle.frz_commands_why.specs.Telling.{EndsWhy, TellsBehind, TellsWhy, ToldA
 use Rattle.frz_commands_why.specs.Texts.{LeavesLegally, end_text, status_by, wrong_in, wrong_text}
 
 -- a code that is neither 0, nor that of a hold or of a win, is that of a failure
-odd_code : (c r : ℕ) → c % 2 ≡ r → r < 2 → is_win c ≡ false → c ≢ 0 → r ≡ 1
-odd_code c r e small w zero =
-    let positive : nat_lt 0 c ≡ true = lt-ltb 0 c (omega arith) in
-    let not_even : (c % 2 == 0) ≡ false = by_even (c % 2 == 0) refl in
-    let no = eqb-false (c % 2) 0 not_even in
-    by_rest (λ z. no (e ∙ z))
-  where
-    by_even : (b : Bool) → (c % 2 == 0) ≡ b → b ≡ false
-    by_even false h = refl
-    by_even true h = absurd (zero (zero_of h))
-      where
-        zero_of : (c % 2 == 0) ≡ true → c ≡ 0
-        zero_of k = ?
-    by_rest : (r ≡ 0 → ⊥) → r ≡ 1
-    by_rest n = omega arith
-
 pub left_failing : (c : ℕ) → is_win c ≡ false → c ≢ 1 → c ≢ 0 → is_failure c ≡ true
-left_failing c w one zero = ?
+left_failing c win one zero = by_even (c % 2 == 0) refl
+  where
+    by_even : (b : Bool) → (c % 2 == 0) ≡ b → is_failure c ≡ true
+    by_even true even =
+        let some : nat_lt 0 c ≡ true = lt-ltb 0 c (omega arith) in
+        absurd (let no : true ≡ false = rw (even, some) at win in cc)
+    by_even false even =
+        let not_even = eqb-false (c % 2) 0 even in
+        let odd : c % 2 ≡ 1 = omega arith in
+        rw (eq-eqb (c % 2) 1 odd, lt-ltb 1 c (omega arith)) refl
 
 -- the move to an exit is legal
 pub leaves_legally : (rules : RuleLines) (value : Board → Value) (side : Colour) (q : Board)
@@ -135,15 +129,85 @@ module _ (rules : RuleLines) (value : Board → Value) (side : Colour) (codes : 
   abbrev code : ℕ
   code = slice_index codes number
 
+  abbrev Tells : Result Status Failed → SinkTold → SinkTold → Type 0
+  Tells = TellsWhy rules value side codes decider number
+
   -- the line of the bound, what stands behind it, and a wrong entry
-  pub all_told : (wrong : Option WrongEntry) (result : Result Status Failed)
-      (old first second new : SinkTold) → TookText (kept_line side code) old first →
-      Behind (Ok wrong) first second → TookText (wrong_text wrong) second new →
-      TellsWhy rules value side codes decider number (Ok (status_by wrong)) old new
-  all_told wrong result old first second new bound h last = record {
+  pub all_told : (wrong : Option WrongEntry) (old first second new : SinkTold) →
+      TookText (kept_line side code) old first → Behind (Ok wrong) first second →
+      TookText (wrong_text wrong) second new → Tells (Ok (status_by wrong)) old new
+  all_told wrong old first second new bound h last =
+      let is : wrong ≡ h.wrong = h.answers in
+      record {
+        text = h.text;
+        wrong = wrong;
+        told = subst (λ (w : Option WrongEntry).
+            ToldAt rules value side codes decider number h.text w) (sym is) h.told;
+        wrote = record { ok = took_next bound (took_next h.wrote.ok last); failed = tt };
+        answers = refl;
+      }
+
+  -- the sink failed within the line of a wrong entry
+  pub last_failed : (e : Failed) (wrong : Option WrongEntry) (old first second new : SinkTold) →
+      TookText (kept_line side code) old first → Behind (Ok wrong) first second →
+      FailedWithin (wrong_text wrong) second new → Tells (Err e) old new
+  last_failed e wrong old first second new bound h last =
+      let is : wrong ≡ h.wrong = h.answers in
+      record {
+        text = h.text;
+        wrong = wrong;
+        told = subst (λ (w : Option WrongEntry).
+            ToldAt rules value side codes decider number h.text w) (sym is) h.told;
+        wrote = record {
+          ok = tt;
+          failed = failed_next bound (failed_next h.wrote.ok last);
+        };
+        answers = tt;
+      }
+
+  -- it failed within what stands behind the line of the bound
+  pub behind_failed : (e : Failed) (old first new : SinkTold) →
+      TookText (kept_line side code) old first → Behind (Err e) first new → Tells (Err e) old new
+  behind_failed e old first new bound h = record {
     text = h.text;
+    wrong = h.wrong;
+    told = h.told;
+    wrote = record {
+      ok = tt;
+      failed = failed_next bound (failed_first (wrong_text h.wrong) h.wrote.failed);
+    };
+    answers = tt;
+  }
+
+  -- it failed within that line
+  pub bound_failed : (text : List ℕ) (wrong : Option WrongEntry) →
+      ToldAt rules value side codes decider number text wrong → (e : Failed)
+      (old new : SinkTold) → FailedWithin (kept_line side code) old new → Tells (Err e) old new
+  bound_failed text wrong told e old new failed = record {
+    text = text;
     wrong = wrong;
-    told = subst (λ w. ToldAt rules value side codes decider number h.text w) (sym h.answers) h.told;
-    wrote = record { ok = took_next bound (took_next h.wrote.ok last); failed = tt };
-    answers = refl;
+    told = told;
+    wrote = record { ok = tt; failed = failed_first (text ++ wrong_text wrong) failed };
+    answers = tt;
+  }
+
+  -- the command ends with what was written
+  pub ends_told : (status : Status) (old new : SinkTold) → Tells (Ok status) old new →
+      EndsWhy rules value side codes decider number (Done status) old new
+  ends_told status old new h =
+      let is : status ≡ status_by h.wrong = h.answers in
+      record {
+        text = h.text;
+        wrong = h.wrong;
+        told = h.told;
+        said = record { says = inl (ap (λ (s : Status). Done s) is, h.wrote.ok) };
+      }
+
+  pub ends_failed : (e : Failed) (old new : SinkTold) → Tells (Err e) old new →
+      EndsWhy rules value side codes decider number SinkFault old new
+  ends_failed e old new h = record {
+    text = h.text;
+    wrong = h.wrong;
+    told = h.told;
+    said = record { says = inr (refl, h.wrote.failed) };
   }
