@@ -6,3 +6,8 @@ mod OneWay
 mod Lengths
 mod Quickest
 mod GamesOfChess
+mod PlaceFacts
+mod Telling
+mod Turned
+mod Denied
+mod DeniedAt

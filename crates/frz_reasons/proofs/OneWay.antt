@@ -16,7 +16,7 @@ use Rattle.frz_reasons.specs.LocalEntries.{Agrees, Differs, wrong_at}
 use Rattle.frz_reasons.specs.FailingWays.{IsPlayedAt, FailsFrom, wrong, mated, renounced, leaves, goes_on}
 use Rattle.frz_reasons.specs.FailuresTell.{FailsAt, code_behind}
 use Rattle.frz_reasons.proofs.Codes.{failure_least}
-use Rattle.frz_reasons.proofs.Played.{one_played, played_arm, played_free, PlaysOn, ComesOf, is_wrong, is_mated, is_renounced, is_played, comes_of}
+use Rattle.frz_reasons.proofs.Played.{one_played, played_arm, played_free, PlaysOn, plays_on, ComesOf, is_wrong, is_mated, is_renounced, is_played, comes_of}
 
 module _ (arena : Arena Step ℕ Value) (side : Colour) (codes : List ℕ) where
   -- the way whose moves and reason are these
@@ -25,19 +25,25 @@ module _ (arena : Arena Step ℕ Value) (side : Colour) (codes : List ℕ) where
     pub reason : Reason
     pub way : FailsFrom arena side codes number arms reason
 
+  -- the way behind a move that is played
+  pub record Behind (number : ℕ) (a : Arm Step ℕ Value) : Type 0 where
+    pub rest : List (Arm Step ℕ Value)
+    pub reason : Reason
+    pub way : FailsFrom arena side codes number (a ∷ rest) reason
+
   way_after : (number : ℕ) (a : Arm Step ℕ Value) → IsPlayedAt arena side codes number a
       → PlaysOn arena side codes number a
       → ((q : ℕ) → slice_index codes q + 2 ≡ slice_index codes number
       → is_failure (slice_index codes q) ≡ true → Way q)
-      → (next : Next ℕ Value) → a.next ≡ next → Way number
+      → (next : Next ℕ Value) → a.next ≡ next → Behind number a
   way_after number a p on later (Inside q) e =
       let code : code_behind arena side codes a ≡ slice_index codes q =
       ap (next_code arena side (λ k. slice_index codes k)) e in
       let rest = later q (ap (λ k. k + 2) (sym code) ∙ on.less)
       (subst (λ k. is_failure k ≡ true) code on.failing) in
-      record { arms = a ∷ rest.arms; reason = rest.reason; way = goes_on a q p e rest.way }
+      record { rest = rest.arms; reason = rest.reason; way = goes_on a q p e rest.way }
   way_after number a p on later (Outside v) e =
-      record { arms = a ∷ []; reason = Left number a.mv v; way = leaves a v p e }
+      record { rest = []; reason = Left number a.mv v; way = leaves a v p e }
 
   module _ (tells : (n : ℕ) → is_failure (slice_index codes n) ≡ true →
       Agrees arena side codes n → FailsAt arena side codes n) where
@@ -51,7 +57,8 @@ module _ (arena : Arena Step ℕ Value) (side : Colour) (codes : List ℕ) where
     way_by number (is_renounced agrees n none) later =
         record { arms = []; reason = Renounced; way = renounced agrees n none }
     way_by number (is_played a p on) later =
-        way_after number a p on later a.next refl
+        let behind = way_after number a p on later a.next refl in
+        record { arms = a ∷ behind.rest; reason = behind.reason; way = behind.way }
 
     way_within : (most number : ℕ) → slice_index codes number ≤ most
         → is_failure (slice_index codes number) ≡ true → Way number
@@ -64,6 +71,13 @@ module _ (arena : Arena Step ℕ Value) (side : Colour) (codes : List ℕ) where
     pub way_there : (number : ℕ) → is_failure (slice_index codes number) ≡ true → Way number
     way_there number failing =
         way_within (slice_index codes number) number (omega arith) failing
+
+    pub way_behind : (number : ℕ) → is_failure (slice_index codes number) ≡ true
+        → (a : Arm Step ℕ Value) → IsPlayedAt arena side codes number a → Behind number a
+    way_behind number failing a p =
+        way_after number a p
+        (plays_on arena side codes number (tells number failing p.agrees) a p)
+        (λ q less f. way_there q f) a.next refl
 
   mated_stays : (number : ℕ) (a : Arm Step ℕ Value) → arena.node number ≡ Mate side
       → IsPlayedAt arena side codes number a → ⊥

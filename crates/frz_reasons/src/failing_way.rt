@@ -1,27 +1,18 @@
 //! The way on which a side fails, played and written.
-ghost use Rattle.std.specs.Prelude.{◌≡◌, ◌≤◌, ◌<◌, ◌+◌, ◌/◌, ◌++◌, length, true, codes, slice_index};
-ghost use Rattle.frz_board.specs.Texts.{text_of};
+ghost use Rattle.std.specs.Prelude.{◌≡◌, ◌≤◌, ◌<◌, ◌+◌, ◌/◌, length, true, slice_index};
 ghost use Rattle.frz_store.specs.Told.{sink_of};
-ghost use Rattle.frz_answer.specs.Texts.{WroteText};
 ghost use Rattle.frz_arena.specs.Codes.{is_failure};
 ghost use Rattle.frz_reasons.specs.TellingFailures.{TellsFailure};
 
+use crate::laws::failures_are_spoiled;
 use crate::reason::Reason;
+use crate::texts::write_move;
 use crate::turn::{Turn, take_turn};
-use frz_answer::{write_line, write_piece};
-use frz_board::{Colour, Move, move_text};
+use frz_board::Colour;
 use frz_graph::{Entries, Lists, Next, NumberedGame};
 use frz_steps::Steps;
 use frz_store::{Failed, Sink};
 use std::sync::ledger::Ledger;
-
-/// Writes the line of a move, as `e2e4`.
-fn write_move<O: Sink>(mv: Move, out: &mut O) -> Result<(), Failed>
-    ensures { WroteText (text_of mv ++ codes "\n") result
-        (sink_of O.Sink out.old) (sink_of O.Sink out.new) }
-{
-    write_line(move_text(mv).as_str().as_bytes(), out)
-}
 
 /// Plays the way on which the side fails by these codes, from a number whose code is a failure,
 /// and answers the reason at its end. The moves are written as they are played, one a line; the end
@@ -43,6 +34,7 @@ pub fn write_failing_way<G: NumberedGame<L>, E: Entries, O: Sink, L: Ledger>(
     ensures few { steps.new ≤ steps.old + slice_index (E.codes entries.now side) start / 2 }
     ensures later { steps.old ≤ steps.new }
 {
+    failures_are_spoiled();
     let mut lists = Lists::new();
     let mut number = start;
     'plies: loop {

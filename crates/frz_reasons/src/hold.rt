@@ -1,61 +1,57 @@
 //! How a win is denied to a side that holds, found and written.
-ghost use Rattle.std.specs.Prelude.{◌≡◌, ◌≤◌, ◌<◌, ◌+◌, ℕ, All, List, filter, length, map, slice_index};
+ghost use Rattle.std.specs.Prelude.{◌≡◌, ◌≤◌, ◌<◌, ◌+◌, All, filter, length, slice_index};
 ghost use Rattle.frz_store.specs.Told.{sink_of};
 ghost use Rattle.frz_answer.specs.Texts.{WroteText};
-ghost use Rattle.frz_graph.specs.EntryCodes.{arm_code, IsWithin};
-ghost use Rattle.frz_reasons.specs.Denials.{first_denying as first_of, other_denials, IsReplyTo};
-ghost use Rattle.frz_reasons.specs.ReasonTexts.{denial_line, denials_text, reply_text};
+ghost use Rattle.frz_graph.specs.EntryCodes.{next_code, IsWithin};
+ghost use Rattle.frz_reasons.specs.Denials.{first_denying as first_of, is_denied, other_denials, IsReplyTo};
+ghost use Rattle.frz_reasons.specs.ReasonTexts.{denials_text};
 ghost use Rattle.frz_reasons.specs.TellingDenials.{TellsDenials, TellsOwn};
 
 use crate::denial::Denial;
 use crate::looking::look;
-use frz_answer::write_piece;
+use crate::texts::write_denial;
 use frz_arena::{Node, is_win};
-use frz_board::{Colour, Move, move_text};
+use frz_board::{Colour, Move};
 use frz_game::Wrong;
 use frz_graph::laws::within;
-use frz_graph::{CodeList, Entries, Lists, Next, NextList, NumberedGame};
+use frz_graph::{Arm, Entries, Lists, Next, NumberedGame, exit_code};
 use frz_steps::Steps;
 use frz_store::{Failed, Sink};
 use std::sync::ledger::Ledger;
 
-/// Writes the reply behind its move, if there is one.
-fn write_reply<O: Sink>(reply: Option<Move>, out: &mut O) -> Result<(), Failed>
-    ensures { WroteText (reply_text reply) result
-        (sink_of O.Sink out.old) (sink_of O.Sink out.new) }
+/// The code for the side where a move leads.
+fn code_behind<E: Entries>(side: Colour, next: Next, entries: &E) -> u32
+    requires { IsWithin (length (E.codes entries.now side)) next }
+    ensures { result ≡ next_code side (E.codes entries.now side) next }
 {
-    match reply {
-        None => Ok(()),
-        Some(mv) => {
-            write_piece(b" ", out)?;
-            write_piece(move_text(mv).as_str().as_bytes(), out)
-        }
+    match next {
+        Next::Inside(number) => entries.entry(side, number),
+        Next::Outside(value) => exit_code(value, side),
     }
 }
 
-/// Writes the line of a denial.
-fn write_denial<O: Sink>(denial: Denial, out: &mut O) -> Result<(), Failed>
-    ensures { WroteText (denial_line denial) result
-        (sink_of O.Sink out.old) (sink_of O.Sink out.new) }
+/// Has the side no win behind the move?
+fn denies<E: Entries>(side: Colour, arm: Arm, entries: &E) -> bool
+    requires { IsWithin (length (E.codes entries.now side)) arm.next }
+    ensures { result ≡ is_denied side (E.codes entries.now side) arm }
 {
-    write_piece(move_text(denial.mv).as_str().as_bytes(), out)?;
-    write_reply(denial.reply, out)?;
-    write_piece(b"\n", out)
+    !is_win(code_behind(side, arm.next, entries))
 }
 
-/// The first move of the list that denies the side a win.
-fn first_denying(list: &NextList, codes: &CodeList) -> Option<Move>
-    requires { length codes.now.items ≡ length list.now.items }
-    ensures { (side : Colour) (known : List ℕ) →
-        codes.now.items ≡ map (arm_code side known) list.now.items →
-        result ≡ first_of side known list.now.items }
+/// The first of these moves that denies the side a win.
+fn first_denying<E: Entries>(side: Colour, entries: &E, arms: &[Arm]) -> Option<Move>
+    requires { All (λ a. IsWithin (length (E.codes entries.now side)) a.next) arms.now }
+    ensures { result ≡ first_of side (E.codes entries.now side) arms.now }
 {
-    for place in 0..list.len() {
-        if !is_win(codes[place]) {
-            return Some(list[place].mv);
+    match arms {
+        [] => None,
+        [arm, rest @ ..] => {
+            if denies(side, *arm, entries) {
+                return Some(arm.mv);
+            }
+            first_denying(side, entries, rest)
         }
     }
-    None
 }
 
 /// The reply to a move of the side that leads there, or the wrong entry to which it leads. It takes
@@ -78,59 +74,73 @@ fn reply_to<G: NumberedGame<L>, E: Entries, L: Ledger>(
     let Next::Inside(number) = next else {
         return Ok(None);
     };
+    within();
     look(game, entries, side, number, lists, steps)?;
-    Ok(first_denying(&lists.nexts, &lists.codes))
+    Ok(first_denying(side, entries, &lists.nexts))
 }
 
-/// Writes how each free move of the list is denied to win, up to one that leads to a wrong entry,
+/// Writes how each free move among these is denied to win, up to one that leads to a wrong entry,
 /// which is answered. It takes at most one step for each move.
 fn write_own<G: NumberedGame<L>, E: Entries, O: Sink, L: Ledger>(
     game: &G,
     entries: &E,
     side: Colour,
-    list: &NextList,
+    arms: &[Arm],
     lists: &mut Lists,
     out: &mut O,
     steps: &mut Steps<L>,
 ) -> Result<Option<Wrong>, Failed>
     requires sound { G.sound game.now }
-    requires inside { All (λ a. IsWithin (G.count game.now) a.next) list.now.items }
+    requires inside { All (λ a. IsWithin (G.count game.now) a.next) arms.now }
     requires many { length (E.codes entries.now side) ≡ G.count game.now }
     ensures told { TellsOwn (G.arena game.now) side (E.codes entries.now side)
-        (filter (λ a. a.free) list.now.items) result
+        (filter (λ a. a.free) arms.now) result
         (sink_of O.Sink out.old) (sink_of O.Sink out.new) }
-    ensures few { steps.new ≤ steps.old + length list.now.items }
+    ensures few { steps.new ≤ steps.old + length arms.now }
     ensures later { steps.old ≤ steps.new }
 {
-    for arm in list.as_slice() {
-        if arm.free {
+    match arms {
+        [] => Ok(None),
+        [arm, rest @ ..] => {
+            if !arm.free {
+                return write_own(game, entries, side, rest, lists, out, steps);
+            }
             match reply_to(game, entries, side, arm.next, lists, steps) {
-                Err(wrong) => return Ok(Some(wrong)),
-                Ok(reply) => write_denial(Denial { mv: arm.mv, reply }, out)?,
+                Err(wrong) => Ok(Some(wrong)),
+                Ok(reply) => {
+                    write_denial(Denial { mv: arm.mv, reply }, out)?;
+                    write_own(game, entries, side, rest, lists, out, steps)
+                }
             }
         }
     }
-    Ok(None)
 }
 
-/// Writes the moves of the opponent that deny the side a win.
-fn write_other<O: Sink>(list: &NextList, codes: &CodeList, out: &mut O) -> Result<(), Failed>
-    requires { length codes.now.items ≡ length list.now.items }
-    ensures { (side : Colour) (known : List ℕ) →
-        codes.now.items ≡ map (arm_code side known) list.now.items →
-        WroteText (denials_text (other_denials side known list.now.items)) result
-        (sink_of O.Sink out.old) (sink_of O.Sink out.new) }
+/// Writes those of these moves of the opponent that deny the side a win.
+fn write_other<E: Entries, O: Sink>(
+    side: Colour,
+    entries: &E,
+    arms: &[Arm],
+    out: &mut O,
+) -> Result<(), Failed>
+    requires { All (λ a. IsWithin (length (E.codes entries.now side)) a.next) arms.now }
+    ensures { WroteText (denials_text (other_denials side (E.codes entries.now side) arms.now))
+        result (sink_of O.Sink out.old) (sink_of O.Sink out.new) }
 {
-    for (place, arm) in list.as_slice().iter().enumerate() {
-        if !is_win(codes[place]) {
+    match arms {
+        [] => Ok(()),
+        [arm, rest @ ..] => {
+            if !denies(side, *arm, entries) {
+                return write_other(side, entries, rest, out);
+            }
             let denial = Denial {
                 mv: arm.mv,
                 reply: None,
             };
             write_denial(denial, out)?;
+            write_other(side, entries, rest, out)
         }
     }
-    Ok(())
 }
 
 /// Tells how a win is denied to the side at a number where it holds by these codes. Where it is to
@@ -164,9 +174,11 @@ pub fn write_denials<G: NumberedGame<L>, E: Entries, O: Sink, L: Ledger>(
                 let mut lists = Lists::new();
                 return write_own(game, entries, side, &here.nexts, &mut lists, out, steps);
             }
-            write_other(&here.nexts, &here.codes, out)?;
+            write_other(side, entries, &here.nexts, out)?;
             Ok(None)
         }
-        Ok(_) => Ok(None),
+        Ok(Node::Stalemate(_)) => Ok(None),
+        Ok(Node::Mate(_)) => unreachable!(),
+        Ok(Node::Broken) => unreachable!(),
     }
 }

@@ -12,6 +12,7 @@ mod hold;
 pub mod laws;
 mod looking;
 mod reason;
+mod texts;
 mod turn;
 
 pub use denial::Denial;

@@ -1,7 +1,8 @@
 //! One turn of a failing way: its end at a number, or the move that is due there.
 ghost use Rattle.std.specs.Prelude.{◌≡◌, ◌≤◌, ◌<◌, ◌+◌, ℕ, length, true, IfSome, IsNone, slice_index};
 ghost use Rattle.frz_arena.specs.Codes.{is_failure};
-ghost use Rattle.frz_reasons.specs.Places.{HasCode};
+ghost use Rattle.frz_reasons.specs.Places as words;
+ghost use Rattle.frz_reasons.specs.Places.{IsOneAt};
 ghost use Rattle.frz_reasons.specs.Turns.{IsTurnAt};
 
 use crate::laws::failures_are_spoiled;
@@ -20,19 +21,25 @@ pub enum Turn {
     Played(Arm),
 }
 
-/// The place of the first move of this code that may be played; `own` says whether the side itself
-/// moves, which may play free moves only.
+/// May the move be played, and has it this code? `own` says whether the side itself moves, which may
+/// play free moves only.
+fn is_one(own: bool, arm: Arm, code: u32, found: u32) -> bool
+    ensures { result ≡ words.is_one own arm.free code found }
+{
+    (!own || arm.free) && found == code
+}
+
+/// The place of the first move of this code that may be played.
 fn first_with(own: bool, code: u32, list: &NextList, codes: &CodeList) -> Option<usize>
     requires { length codes.now.items ≡ length list.now.items }
-    ensures some { IfSome result (HasCode own code list.now.items codes.now.items) }
+    ensures some { IfSome result (IsOneAt own code list.now.items codes.now.items) }
     ensures first { IfSome result (λ i. (j : ℕ) → j < i →
-        HasCode own code list.now.items codes.now.items j → ⊥) }
+        IsOneAt own code list.now.items codes.now.items j → ⊥) }
     ensures none { IsNone result → (j : ℕ) →
-        HasCode own code list.now.items codes.now.items j → ⊥ }
+        IsOneAt own code list.now.items codes.now.items j → ⊥ }
 {
     for place in 0..list.len() {
-        let arm = list[place];
-        if (!own || arm.free) && codes[place] == code {
+        if is_one(own, list[place], code, codes[place]) {
             return Some(place);
         }
     }
@@ -67,6 +74,8 @@ pub fn take_turn<G: NumberedGame<L>, E: Entries, L: Ledger>(
                 None => Turn::Over(Reason::Renounced),
             }
         }
-        Ok(_) => Turn::Over(Reason::Mated),
+        Ok(Node::Mate(_)) => Turn::Over(Reason::Mated),
+        Ok(Node::Stalemate(_)) => unreachable!(),
+        Ok(Node::Broken) => unreachable!(),
     }
 }
