@@ -3,4 +3,9 @@ pub mod Places
 pub mod Loaded
 pub mod Told
 pub mod OneDenial
+pub mod OneTelling
 pub mod DenialsTell
+pub mod BestWay
+pub mod Running
+pub mod WhyMeans
+pub mod Lawful

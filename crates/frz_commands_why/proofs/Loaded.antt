@@ -1,5 +1,5 @@
 -- A table and those behind it, of which one could not be loaded.
-use Rattle.std.proofs.Common.{◌≡◌, ℕ, ◌+◌, ◌≤◌, List, Option, Some, Result, Err, arith}
+use Rattle.std.proofs.Common.{◌≡◌, ℕ, ◌+◌, ◌<◌, ◌≤◌, List, length, Option, Some, Result, Err, arith}
 use Rattle.std.specs.Prelude.{sum_by}
 use Rattle.frz_store.specs.Told.{StoreTold}
 use Rattle.frz_table.specs.declared.fault.TableFault.{TableFault}
@@ -8,7 +8,13 @@ use Rattle.frz_table.specs.Opening.{Contents, Refuses}
 use Rattle.frz_atlas.specs.Causes.{table_fault}
 use Rattle.frz_atlas.specs.Costs.{bytes_of, calls_of}
 use Rattle.frz_atlas.specs.Loading.{RefusesOne, WithinLoadingOne, opened_own}
-use Rattle.frz_atlas.proofs.Lemmas.{may_hold_some, some_helds}
+use Rattle.frz_atlas.specs.declared.fault.AtlasFault.{AtlasFault}
+use Rattle.frz_atlas.specs.declared.fault.AtlasFault.TheVariants as atlas
+use Rattle.frz_atlas.specs.declared.fault.BackFault.TheVariants.{Refused, Wrong}
+use Rattle.frz_atlas.proofs.Lemmas.{may_hold_some, some_helds, unopened_below}
+use Rattle.frz_atlas_prelude.specs.declared.names.TheConstants.{MOST_BACKS}
+use Rattle.frz_atlas_prelude.specs.Ending.{HasSmallPlace}
+use Rattle.frz_atlas_prelude.proofs.Lemmas.{as_many}
 use Rattle.frz_commands_why.specs.Loading.{IsUnopened, RefusesTables, WithinOwn}
 
 -- a refusal of the table's own file is one
@@ -45,3 +51,21 @@ refused_first table behind old new fault h = record {
   refuses = own_refused h.held (some_helds old.files behind) fault h.refuses;
   within = within_one h.held (some_helds old.files behind) old new h.within;
 }
+
+-- the place of a table that is refused is below the most that stand behind another
+small_place : (held : Option (List ℕ)) (helds : List (Option (List ℕ))) (fault : AtlasFault) →
+    length helds ≤ MOST_BACKS → IsUnopened held helds fault → HasSmallPlace fault
+small_place held helds (atlas.Rules fault) few h = tt
+small_place held helds (atlas.Table fault) few h = tt
+small_place held helds (atlas.Back place (Refused fault)) few h =
+    let below = unopened_below helds place fault h.1 in omega (arith, below, few)
+small_place held helds (atlas.Back place (Wrong wrong)) few h = absurd h
+small_place held helds atlas.Failed few h = tt
+small_place held helds atlas.NoMemory few h = tt
+
+pub small_unloaded : (table : List ℕ) (behind : List (List ℕ)) (old new : StoreTold)
+    (fault : AtlasFault) → length behind ≤ MOST_BACKS →
+    RefusesTables table behind old new fault → HasSmallPlace fault
+small_unloaded table behind old new fault few h =
+    let many = as_many old.files behind h.helds h.may_all in
+    small_place h.held h.helds fault (omega (arith, many, few)) h.refuses

@@ -1,6 +1,6 @@
 -- A hold is told of in exactly one way.
-use Rattle.std.proofs.Common.{◌≡◌, ◌≢◌, ◌⊎◌, ℕ, Bool, true, false, List, [], Option, None, Some, inl, inr, refl, sym, ap, ◌∙◌, slice_index, if◌then◌else◌}
-use Rattle.std.specs.Prelude.{◌==◌, filter}
+use Rattle.std.proofs.Common.{◌≡◌, ◌≢◌, ◌⊎◌, ℕ, Bool, true, false, List, [], Option, None, Some, inl, inr, refl, sym, ap, ◌∙◌, slice_index, arith}
+use Rattle.std.specs.Prelude.{◌==◌, filter, if◌then◌else◌}
 use Rattle.std.proofs.lemmas.Bool.{eqb-false, eqb-true}
 use Rattle.frz_board.specs.declared.man.Colour.{Colour}
 use Rattle.frz_board.specs.declared.man.Colour.TheVariants.{White, Black}
@@ -26,9 +26,9 @@ not_other : (side : Colour) → side ≡ other_of side → ⊥
 not_other White e = cc
 not_other Black e = cc
 
-mated_code : (own : Bool) → (if own then 3 else 2) ≡ 1 → ⊥
-mated_code true e = cc
-mated_code false e = cc
+mated_code : (mine : Bool) (code : ℕ) → code ≡ (if mine then 3 else 2) → code ≡ 1 → ⊥
+mated_code true code e hold = omega arith
+mated_code false code e hold = omega arith
 
 module _ (arena : Arena Step ℕ Value) (side : Colour) (codes : List ℕ) (number : ℕ) where
   -- what is told
@@ -45,9 +45,10 @@ module _ (arena : Arena Step ℕ Value) (side : Colour) (codes : List ℕ) (numb
 
     by_node : Agrees arena side codes number → (node : Node) → arena.node number ≡ node → Denied
     by_node agrees Broken n =
-        let is : 1 ≡ 0 = sym hold ∙ agrees ∙ ap given_by n in absurd cc
+        let zero : slice_index codes number ≡ 0 = agrees ∙ ap given_by n in absurd (omega arith)
     by_node agrees (Mate mover) n =
-        absurd (mated_code (same_colour mover side) (sym (sym hold ∙ agrees ∙ ap given_by n)))
+        absurd (mated_code (same_colour mover side) (slice_index codes number)
+        (agrees ∙ ap given_by n) hold)
     by_node agrees (Stalemate mover) n =
         record { denials = []; wrong_one = None; denied = stalemate agrees mover n }
     by_node agrees (Going mover) n = by_mover (whose side mover)

@@ -1,7 +1,6 @@
 -- What was told of a number, from what was written piece by piece.
 use Rattle.std.proofs.Common.{◌≡◌, ◌≢◌, ℕ, ◌+◌, ◌%◌, ◌<◌, Bool, true, false, ◌&&◌, List, [], ◌++◌, slice_index, Option, None, Some, Result, Ok, Err, IfOk, IfSome, nat_lt, inl, inr, refl, sym, ap, subst, ◌∙◌, arith}
-use Rattle.std.specs.Prelude.{◌==◌}
-use Rattle.std.proofs.lemmas.Bool.{eq-eqb, eqb-false, lt-ltb}
+use Rattle.std.proofs.lemmas.Bool.Decides.{nat_tests}
 use Rattle.frz_board.specs.declared.man.Colour.{Colour}
 use Rattle.frz_board.specs.Boards.{Board}
 use Rattle.frz_board.specs.Moving.{Step}
@@ -36,16 +35,7 @@ use Rattle.frz_commands_why.specs.Texts.{LeavesLegally, end_text, status_by, wro
 
 -- a code that is neither 0, nor that of a hold or of a win, is that of a failure
 pub left_failing : (c : ℕ) → is_win c ≡ false → c ≢ 1 → c ≢ 0 → is_failure c ≡ true
-left_failing c win one zero = by_even (c % 2 == 0) refl
-  where
-    by_even : (b : Bool) → (c % 2 == 0) ≡ b → is_failure c ≡ true
-    by_even true even =
-        let some : nat_lt 0 c ≡ true = lt-ltb 0 c (omega arith) in
-        absurd (let no : true ≡ false = rw (even, some) at win in cc)
-    by_even false even =
-        let not_even = eqb-false (c % 2) 0 even in
-        let odd : c % 2 ≡ 1 = omega arith in
-        rw (eq-eqb (c % 2) 1 odd, lt-ltb 1 c (omega arith)) refl
+left_failing c win one zero = grind (arith, nat_tests)
 
 -- the move to an exit is legal
 pub leaves_legally : (rules : RuleLines) (value : Board → Value) (side : Colour) (q : Board)

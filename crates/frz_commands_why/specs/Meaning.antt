@@ -1,12 +1,8 @@
 -- What the answers of `why` mean.
-use Rattle.std.specs.Prelude.{◌≡◌, ◌++◌, ℕ, not, Bool, true, false, List, [], map, filter, length, Option, Some, None, Ok, Err, codes}
-use Rattle.std.specs.List.{Contains}
+use Rattle.std.specs.Prelude.{◌≡◌, ◌++◌, ℕ, List, map, length, Some, Ok, Err, codes}
 use Rattle.frz_board.specs.declared.man.Colour.{Colour}
 use Rattle.frz_board.specs.Boards.{Board}
-use Rattle.frz_board.specs.Men.{other_of}
 use Rattle.frz_board.specs.Moving.{Step}
-use Rattle.frz_fide.specs.Legal.{after}
-use Rattle.frz_fide.specs.Listing.{legal_moves_of}
 use Rattle.frz_sets.specs.declared.exit.Value.{Value}
 use Rattle.frz_index.specs.Members.{Member, Num}
 use Rattle.frz_store.specs.Files.{Files}
@@ -24,7 +20,7 @@ use Rattle.frz_atlas.specs.Loading.{opened_all, opened_own}
 use Rattle.frz_atlas.specs.declared.fault.BackFault.TheVariants.{Refused}
 use Rattle.frz_answer.specs.declared.status.Status.{Status}
 use Rattle.frz_answer.specs.declared.status.Status.TheVariants.{Success, Wrong, Table, Outside, Missing}
-use Rattle.frz_answer.specs.Answers.{Answer}
+use Rattle.frz_answer.specs.Answers.{Answer, says}
 use Rattle.frz_prelude.specs.BoundLines.{kept_line}
 use Rattle.frz_prelude.specs.Refusals.{table_status}
 use Rattle.frz_prelude.specs.TableCauses.{table_line}
@@ -33,7 +29,6 @@ use Rattle.frz_atlas_prelude.specs.BackLines.{back_line}
 use Rattle.frz_reasons.specs.declared.denial.Denial.{Denial}
 use Rattle.frz_reasons.specs.declared.reason.Reason.{Reason}
 use Rattle.frz_reasons.specs.declared.reason.Reason.TheVariants.{Left}
-use Rattle.frz_reasons.specs.Denials.{DeniesWin}
 use Rattle.frz_reasons.specs.FailingGames.{EndsAt, IsGameFrom, IsRight, IsSpoiled, position_behind}
 use Rattle.frz_reasons.specs.FailingWays.{FailsFrom}
 use Rattle.frz_reasons.specs.ReasonTexts.{denials_text, moves_text}
@@ -42,7 +37,7 @@ use Rattle.frz_commands_why.specs.Decides.{Decides}
 use Rattle.frz_commands_why.specs.Denying.{AreDenials}
 use Rattle.frz_commands_why.specs.Loading.{OpensOwn}
 use Rattle.frz_commands_why.specs.Telling.{why_text}
-use Rattle.frz_commands_why.specs.Texts.{end_text, wrong_text}
+use Rattle.frz_commands_why.specs.Texts.{end_text}
 use Rattle.frz_commands_why.specs.WhyOf.{IsToldOf, backs_behind, code_at, decider_behind, value_behind}
 
 -- TABLE and the BACKs open, each as its own kind
@@ -144,23 +139,24 @@ pub record TellsOutside (table : List ℕ) (behind : List (List ℕ)) (p : Board
 
 -- TABLE is refused, or it opens and the BACK at this place is the first that is refused; the line
 -- counts places from 1
-pub data TellsRefusal (table : List ℕ) (behind : List (List ℕ)) (files : Files) (status : Status)
-    (text : List ℕ) : Type 0 where
+pub data TellsRefusal (table : List ℕ) (behind : List (List ℕ)) (files : Files) (a : Answer) :
+    Type 0 where
   of_table : (fault : TableFault) → opened_own (files table) ≡ Err fault →
-      status ≡ table_status fault → text ≡ table_line fault →
-      TellsRefusal table behind files status text
+      a ≡ says (table_status fault) (table_line fault) files →
+      TellsRefusal table behind files a
   of_back : OpensOwn (files table) → (place : ℕ) (fault : TableFault) →
-      opened_all (map files behind) ≡ Err (place, fault) → status ≡ table_status fault →
-      text ≡ back_line place (Refused fault) → TellsRefusal table behind files status text
+      opened_all (map files behind) ≡ Err (place, fault) →
+      a ≡ says (table_status fault) (back_line place (Refused fault)) files →
+      TellsRefusal table behind files a
 
 -- what an answer says, by its status
-abbrev pub MeansStatus : List ℕ → List (List ℕ) → Colour → Board → Files → Status → List ℕ → Type 0
-MeansStatus table behind side p files Success text = TellsAll table behind side p files text
-MeansStatus table behind side p files Wrong text = TellsWrong table behind side p files text
-MeansStatus table behind side p files Table text = TellsRefusal table behind files Table text
-MeansStatus table behind side p files Outside text = TellsOutside table behind p files text
-MeansStatus table behind side p files Missing text = TellsRefusal table behind files Missing text
-MeansStatus table behind side p files status text = ⊥
+abbrev pub MeansStatus : List ℕ → List (List ℕ) → Colour → Board → Files → Answer → Status → Type 0
+MeansStatus table behind side p files a Success = TellsAll table behind side p files a.text
+MeansStatus table behind side p files a Wrong = TellsWrong table behind side p files a.text
+MeansStatus table behind side p files a Table = TellsRefusal table behind files a
+MeansStatus table behind side p files a Outside = TellsOutside table behind p files a.text
+MeansStatus table behind side p files a Missing = TellsRefusal table behind files a
+MeansStatus table behind side p files a status = ⊥
 
 -- what an answer of `why` means: it changes no file and takes no input, and each status has its
 -- cause
@@ -168,4 +164,4 @@ pub record MeansWhy (table : List ℕ) (behind : List (List ℕ)) (side : Colour
     (files : Files) (a : Answer) : Type 0 where
   pub same : a.files ≡ files
   pub untaken : a.taken ≡ 0
-  pub says : MeansStatus table behind side p files a.status a.text
+  pub says : MeansStatus table behind side p files a a.status

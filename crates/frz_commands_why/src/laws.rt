@@ -11,6 +11,11 @@ ghost use Rattle.frz_commands_why.specs.Asking.{why_words};
 ghost use Rattle.frz_commands_why.specs.Deciders.{decider_of};
 ghost use Rattle.frz_commands_why.specs.Decides.{Decides};
 
+use frz_reasons::laws::{
+    failing_ways_are_games, failures_are_spoiled, one_failing_way, quickest, spoils,
+    tables_are_never_wrong,
+};
+
 /// What is told to have decided the value of a position did so: for an accepted text, over any
 /// tables behind its exit lines.
 pub fn deciders_decide()
@@ -24,4 +29,11 @@ pub fn deciders_decide()
 /// of bytes, that answer means what `why` promises.
 pub fn why_lawful()
     ensures { (words : List (List ℕ)) → IsLawful (why_words words) }
-{}
+{
+    failures_are_spoiled();
+    one_failing_way();
+    failing_ways_are_games();
+    quickest();
+    tables_are_never_wrong();
+    spoils();
+}

@@ -27,6 +27,7 @@ use frz_game::{Game, Wrong};
 use frz_graph::{Entries, Lists, local_at};
 use frz_index::Set;
 use frz_prelude::write_kept_line;
+use frz_reasons::laws::{failing_ways_are_games, one_failing_way};
 use frz_reasons::{Reason, write_denials, write_failing_way};
 use frz_sets::Value;
 use frz_steps::Steps;
@@ -132,6 +133,7 @@ fn tell_failure<B: ExitBook, E: Entries, O: Sink, L: Ledger>(
     ensures steps { steps.new ≤ steps.old + slice_index (E.codes entries.now side) number / 2 }
     ensures later { steps.old ≤ steps.new }
 {
+    failing_ways_are_games();
     let reason = write_failing_way(game, entries, side, number, out, steps)?;
     write_end(game.set, deciding, reason, out)
 }
@@ -199,6 +201,7 @@ fn tell_all<B: ExitBook, E: Entries, O: Sink, L: Ledger>(
         (length ((graph_by game.now.rules.now (B.value_at game.now.book.now)).arms number)) }
     ensures later { steps.old ≤ steps.new }
 {
+    one_failing_way();
     write_kept_line(side, entries.entry(side, number), out)?;
     let wrong = tell_behind(game, entries, deciding, side, number, out, steps)?;
     write_wrong_entry(wrong, out)?;

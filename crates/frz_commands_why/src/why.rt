@@ -38,6 +38,7 @@ use frz_exits::{ExitBook, RuleBook};
 use frz_fen::read_fen;
 use frz_game::{Game, Pair};
 use frz_prelude::{Refused, Stop, number_in, refuse_named};
+use frz_reasons::laws::one_failing_way;
 use frz_steps::Steps;
 use frz_store::{Sink, Store};
 use frz_table::FileKind;
@@ -167,6 +168,7 @@ fn why_at<S: Store, O: Sink, L: Ledger>(
         (world (store_of S.Store store.old) input (sink_of O.Sink out.old) steps.old)
         (world (store_of S.Store store.new) input (sink_of O.Sink out.new) steps.new) }
 {
+    one_failing_way();
     match load_tables(alloc, store, table, behind) {
         Ok((own, backs)) => why_in(alloc, &own, &backs, side, p, out, steps),
         Err(fault) => end_at(fault, out),
