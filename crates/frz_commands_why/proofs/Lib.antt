@@ -7,5 +7,7 @@ pub mod OneTelling
 pub mod DenialsTell
 pub mod BestWay
 pub mod Running
+pub mod Inside
+pub mod Named
 pub mod WhyMeans
 pub mod Lawful

@@ -1,5 +1,7 @@
 -- What was told of a number, from what was written piece by piece.
-use Rattle.std.proofs.Common.{◌≡◌, ◌≢◌, ℕ, ◌+◌, ◌%◌, ◌<◌, Bool, true, false, ◌&&◌, List, [], ◌++◌, slice_index, Option, None, Some, Result, Ok, Err, IfOk, IfSome, nat_lt, inl, inr, refl, sym, ap, subst, ◌∙◌, arith}
+use Rattle.std.proofs.Common.{◌≡◌, ◌≢◌, ℕ, ◌+◌, ◌%◌, ◌<◌, Bool, true, false, ◌&&◌, List, [], ◌++◌, slice_index, Option, None, Some, Result, Ok, Err, IfOk, IfSome, inl, inr, refl, sym, ap, subst, ◌∙◌, arith}
+use Rattle.std.specs.Prelude.{IsSome}
+use Rattle.std.specs.Result.{IsErr}
 use Rattle.std.proofs.lemmas.Bool.Decides.{nat_tests}
 use Rattle.frz_board.specs.declared.man.Colour.{Colour}
 use Rattle.frz_board.specs.Boards.{Board}
@@ -7,7 +9,10 @@ use Rattle.frz_board.specs.Moving.{Step}
 use Rattle.frz_fide.specs.Legal.{is_legal}
 use Rattle.frz_fide.proofs.Lemmas.{only_legal}
 use Rattle.frz_sets.specs.declared.exit.Value.{Value}
+use Rattle.frz_sets.specs.Sets.{size_of}
 use Rattle.frz_sets.specs.Views.{GroupLine, RuleLines}
+use Rattle.frz_index.proofs.Lemmas.{Num_below, position_tells}
+use Rattle.frz_arena.specs.declared.arm.Arm.{Arm}
 use Rattle.frz_store.specs.declared.outside.Failed.{Failed}
 use Rattle.frz_store.specs.Told.{SinkTold}
 use Rattle.frz_arena.specs.Codes.{is_failure, is_win}
@@ -23,7 +28,7 @@ use Rattle.frz_answer.proofs.Lemmas.{failed_first, failed_next, took_next, took_
 use Rattle.frz_prelude.specs.BoundLines.{kept_line}
 use Rattle.frz_reasons.specs.declared.reason.Reason.{Reason}
 use Rattle.frz_reasons.specs.declared.reason.Reason.TheVariants.{Wrong, Mated, Renounced, Left}
-use Rattle.frz_reasons.specs.FailingGames.{EndsAt}
+use Rattle.frz_reasons.specs.FailingGames.{EndsAt, position_behind}
 use Rattle.frz_reasons.specs.LocalEntries.{wrong_at}
 use Rattle.frz_reasons.specs.FailingWays.{FailsFrom}
 use Rattle.frz_reasons.specs.ReasonTexts.{denials_text, moves_text}
@@ -37,6 +42,24 @@ use Rattle.frz_commands_why.specs.Texts.{LeavesLegally, end_text, status_by, wro
 pub left_failing : (c : ℕ) → is_win c ≡ false → c ≢ 1 → c ≢ 0 → is_failure c ≡ true
 left_failing c win one zero = grind (arith, nat_tests)
 
+-- what holds of each failure of the sink holds of a result that is one
+pub as_failed : {T : Type 0} (P : Result T Failed → Type 0) (result : Result T Failed) →
+    IsErr result → ((e : Failed) → P (Err e)) → P result
+as_failed P (Ok x) none h = absurd (cc)
+as_failed P (Err e) none h = h e
+
+-- a number of a position is one of the set
+pub number_below : (groups : List GroupLine) (number : ℕ) → IsSome (position_at groups number) →
+    number < size_of groups
+number_below groups number some = by_some (position_at groups number) refl some
+  where
+    by_some : (o : Option Board) → position_at groups number ≡ o → IsSome o →
+        number < size_of groups
+    by_some None at is = absurd (cc)
+    by_some (Some p) at is =
+        let h = position_tells groups number p at in
+        subst (λ n. n < size_of groups) h.number (Num_below groups p h.member)
+
 -- the move to an exit is legal
 pub leaves_legally : (rules : RuleLines) (value : Board → Value) (side : Colour) (q : Board)
     (reason : Reason) → EndsAt rules value side q reason → LeavesLegally rules.groups reason
@@ -46,6 +69,31 @@ leaves_legally rules value side q Renounced ends = tt
 leaves_legally rules value side q (Left number m v) ends =
     subst (λ (o : Option Board). IfSome o (λ p. is_legal p m ≡ true)) (sym ends.at)
     (only_legal ends.from m ends.legal).1
+
+-- that the reason at the end of a way is true of the position behind it
+abbrev pub WayEnds : Type 0
+WayEnds = (rules : RuleLines) (value : Board → Value) (side : Colour) (codes : List ℕ)
+    (start : ℕ) (arms : List (Arm Step ℕ Value)) (reason : Reason) (p : Board) →
+    position_at rules.groups start ≡ Some p →
+    FailsFrom (graph_by rules value) side codes start arms reason →
+    EndsAt rules value side (position_behind p arms) reason
+
+-- so the move to the exit that was answered is legal
+pub told_legally : WayEnds → (rules : RuleLines) (value : Board → Value) (side : Colour)
+    (codes : List ℕ) (number : ℕ) → IsSome (position_at rules.groups number) →
+    (reason : Reason) (old mid : SinkTold) →
+    TellsFailure (graph_by rules value) side codes number (Ok reason) old mid →
+    LeavesLegally rules.groups reason
+told_legally ends rules value side codes number some reason old mid way =
+    by_some (position_at rules.groups number) refl some
+  where
+    by_some : (o : Option Board) → position_at rules.groups number ≡ o → IsSome o →
+        LeavesLegally rules.groups reason
+    by_some None at is = absurd (cc)
+    by_some (Some p) at is =
+        subst (λ (r : Reason). LeavesLegally rules.groups r) (sym way.answers)
+        (leaves_legally rules value side (position_behind p way.arms) way.reason
+        (ends rules value side codes number way.arms way.reason p at way.way))
 
 module _ (rules : RuleLines) (value : Board → Value) (side : Colour) (codes : List ℕ)
     (decider : Board → Decider) (number : ℕ) where
@@ -69,11 +117,11 @@ module _ (rules : RuleLines) (value : Board → Value) (side : Colour) (codes : 
   }
 
   -- the sink failed within the way
-  pub failure_failed : is_failure (slice_index codes number) ≡ true → (e : Failed)
+  pub failure_failed : is_failure (slice_index codes number) ≡ true → (e d : Failed)
       (old new : SinkTold) →
       TellsFailure (graph_by rules value) side codes number (Err e) old new →
-      Behind (Err e) old new
-  failure_failed failing e old new way = record {
+      Behind (Err d) old new
+  failure_failed failing e d old new way = record {
     text = moves_text way.arms ++ end_text rules.groups decider way.reason;
     wrong = wrong_in way.reason;
     told = fails failing way.arms way.reason way.way;
@@ -156,9 +204,9 @@ module _ (rules : RuleLines) (value : Board → Value) (side : Colour) (codes : 
       }
 
   -- it failed within what stands behind the line of the bound
-  pub behind_failed : (e : Failed) (old first new : SinkTold) →
-      TookText (kept_line side code) old first → Behind (Err e) first new → Tells (Err e) old new
-  behind_failed e old first new bound h = record {
+  pub behind_failed : (e d : Failed) (old first new : SinkTold) →
+      TookText (kept_line side code) old first → Behind (Err e) first new → Tells (Err d) old new
+  behind_failed e d old first new bound h = record {
     text = h.text;
     wrong = h.wrong;
     told = h.told;
