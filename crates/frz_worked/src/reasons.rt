@@ -31,15 +31,32 @@ const WRONG: Tables = (
     [1, 0, 5, 7, 5, 7, 5, 5, 8, 1],
 );
 
-/// The move out of the set.
-const OUT: Move = Move {
-    from: Square::at(0),
-    to: Square::at(63),
-    promo: None,
-};
+/// What ends a way: the side is mated, an entry is wrong, or the move from a1 to h8 leaves the set
+/// from this number to this value.
+#[derive(Clone, Copy, Debug)]
+enum Ended {
+    Mated,
+    Wrong(Wrong),
+    Left(u32, Value),
+}
 
-/// A failing way: the tables, the side, the start, the moves and the reason.
-struct Way(&'static Tables, Colour, u32, &'static [u8], Reason);
+fn reason_of(ended: Ended) -> Reason {
+    match ended {
+        Ended::Mated => Reason::Mated,
+        Ended::Wrong(wrong) => Reason::Wrong(wrong),
+        Ended::Left(number, value) => {
+            let out = Move {
+                from: Square::at(0),
+                to: Square::at(63),
+                promo: None,
+            };
+            Reason::Left(number, out, value)
+        }
+    }
+}
+
+/// A failing way: the tables, the side, the start, the moves and what ends them.
+struct Way(&'static Tables, Colour, u32, &'static [u8], Ended);
 
 const WAYS: &[Way] = &[
     // White fails at 8, since Black leaves the set to a win.
@@ -48,29 +65,29 @@ const WAYS: &[Way] = &[
         Colour::White,
         8,
         b"a1h8\n",
-        Reason::Left(8, OUT, Value::BlackWinsIn(2)),
+        Ended::Left(8, Value::BlackWinsIn(2)),
     ),
     // Black is mated at once.
-    Way(&RIGHT, Colour::Black, 0, b"", Reason::Mated),
+    Way(&RIGHT, Colour::Black, 0, b"", Ended::Mated),
     // Black goes to 2, which lasts longer than the exit, and White mates.
-    Way(&RIGHT, Colour::Black, 3, b"a1c1\na1a1\n", Reason::Mated),
+    Way(&RIGHT, Colour::Black, 3, b"a1c1\na1a1\n", Ended::Mated),
     // Black goes to 4 before 6, which lasts as long, and White mates by the move that it renounces
     // for its own bound.
-    Way(&RIGHT, Colour::Black, 5, b"a1e1\na1a1\n", Reason::Mated),
+    Way(&RIGHT, Colour::Black, 5, b"a1e1\na1a1\n", Ended::Mated),
     // White takes the exit: a value that says nothing is as bad for Black as a loss.
     Way(
         &RIGHT,
         Colour::Black,
         6,
         b"a1h8\n",
-        Reason::Left(6, OUT, Value::Unknown),
+        Ended::Left(6, Value::Unknown),
     ),
     Way(
         &RIGHT,
         Colour::Black,
         7,
         b"a1h8\n",
-        Reason::Left(7, OUT, Value::WhiteWinsIn(6)),
+        Ended::Left(7, Value::WhiteWinsIn(6)),
     ),
     // With 0 as a hold the least failure behind 4 is that of 3, which has 7.
     Way(
@@ -78,7 +95,7 @@ const WAYS: &[Way] = &[
         Colour::Black,
         5,
         b"a1e1\n",
-        Reason::Wrong(Wrong {
+        Ended::Wrong(Wrong {
             side: Colour::Black,
             number: 4,
             kept: 5,
@@ -103,7 +120,7 @@ fn check_way<L: Ledger, R: Abort>(
     assert!(rt; is_failure(entries.entry(*side, *start)));
     let mut out = MemSink::new(alloc, 100, Vec::new(alloc)).or(Err("sink"))?;
     let reason = write_failing_way(&Ten::new(), &entries, *side, *start, &mut out, steps);
-    assert_eq!(rt; reason, Ok(*wanted));
+    assert_eq!(rt; reason, Ok(reason_of(*wanted)));
     assert!(rt; out.taken() == *text);
     Ok(())
 }
@@ -127,13 +144,7 @@ fn tells_why_sides_fail(rt: HostRuntime) -> Result<(), Fail> {
 }
 
 /// A hold: the tables, the side, the number, the lines, and the wrong entry that is met.
-struct Hold(
-    &'static Tables,
-    Colour,
-    u32,
-    &'static [u8],
-    Option<Wrong>,
-);
+struct Hold(&'static Tables, Colour, u32, &'static [u8], Option<Wrong>);
 
 const HOLDS: &[Hold] = &[
     // Black goes from 5 to 6, and not to 4, where White wins.
