@@ -2,6 +2,7 @@
 pub mod Lemmas
 mod Classes
 mod FirstLines
+mod FittingLines
 mod SmallLags
 mod SoundLags
 mod WordsOfMen

@@ -2,4 +2,5 @@
 pub mod Values
 pub mod Forbidding
 pub mod Conditions
+pub mod Fitting
 pub mod Books

@@ -35,3 +35,14 @@ abbrev pub is_numbered : Value → Bool
 is_numbered (WhiteWinsIn n) = true
 is_numbered (BlackWinsIn n) = true
 is_numbered _ = false
+
+-- the value says nothing of a position
+abbrev pub is_unknown : Value → Bool
+is_unknown WhiteWins = false
+is_unknown BlackWins = false
+is_unknown Draw = false
+is_unknown WhiteHolds = false
+is_unknown BlackHolds = false
+is_unknown Unknown = true
+is_unknown (WhiteWinsIn n) = false
+is_unknown (BlackWinsIn n) = false

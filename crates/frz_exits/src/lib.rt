@@ -3,12 +3,13 @@
 
 mod book;
 mod conditions;
+mod fitting;
 mod forbidding;
 pub mod laws;
 mod value;
 
 pub use book::{ExitBook, RuleBook};
-pub use conditions::all_hold;
+pub use fitting::fitting_line;
 pub use forbidding::allowed;
 pub use frz_arena::Class;
-pub use value::{class, lag};
+pub use value::{class, is_unknown, lag};

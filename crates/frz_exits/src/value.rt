@@ -2,6 +2,7 @@
 
 ghost use Rattle.std.specs.Prelude.{◌≡◌};
 ghost use Rattle.frz_exits.specs.Values.{class_of, lag_of};
+ghost use Rattle.frz_exits.specs.Values as values;
 
 use frz_arena::Class;
 use frz_board::Colour;
@@ -30,4 +31,11 @@ pub fn lag(v: Value) -> u32
         Value::WhiteWinsIn(plies) | Value::BlackWinsIn(plies) => plies,
         _ => 0,
     }
+}
+
+/// Does the value say nothing of a position?
+pub fn is_unknown(v: Value) -> bool
+    ensures { result ≡ values.is_unknown v }
+{
+    matches!(v, Value::Unknown)
 }

@@ -18,7 +18,8 @@ use Rattle.frz_game.specs.TextsByMen.{is_true_by}
 use Rattle.frz_backs.specs.Links.{Link}
 use Rattle.frz_premises.specs.declared.basis.Basis.{Basis}
 use Rattle.frz_premises.specs.declared.basis.Basis.TheVariants.{AsksNothing, ByMen, ByTable, ByTables, Believed}
-use Rattle.frz_premises.specs.Bases.{bases_of, basis_at, basis_of, by_need, by_tables, is_unknown}
+use Rattle.frz_exits.specs.Values.{is_unknown}
+use Rattle.frz_premises.specs.Bases.{bases_of, basis_at, basis_of, by_need, by_tables}
 use Rattle.frz_premises.specs.Deciding.{decided_by, decides}
 use Rattle.frz_premises.specs.Needs.{IsTellable, NeedsBelief}
 use Rattle.frz_premises.specs.Saying.{none_says, says_as_much, says_at_each}

@@ -24,7 +24,8 @@ use Rattle.frz_backs.specs.Values.{atlas_value}
 use Rattle.frz_backs.proofs.Lemmas.{exits_over_true}
 use Rattle.frz_premises.specs.declared.basis.Basis.{Basis}
 use Rattle.frz_premises.specs.declared.basis.Basis.TheVariants.{Believed}
-use Rattle.frz_premises.specs.Bases.{bases_of, basis_at, basis_of, believed_of, by_need, by_tables, is_believed, is_unknown}
+use Rattle.frz_exits.specs.Values.{is_unknown}
+use Rattle.frz_premises.specs.Bases.{bases_of, basis_at, basis_of, believed_of, by_need, by_tables, is_believed}
 use Rattle.frz_premises.specs.Believing.{BeliefHolds}
 use Rattle.frz_premises.specs.Deciding.{decided_by, decides}
 use Rattle.frz_premises.specs.Saying.{none_says, says_as_much, says_at_each}

@@ -22,7 +22,8 @@ use Rattle.frz_chain.specs.declared.back.BackTable.{BackTable}
 use Rattle.frz_premises.specs.declared.basis.Basis.{Basis}
 use Rattle.frz_premises.specs.declared.trial.Trial.{Trial}
 use Rattle.frz_premises.specs.Bases.{bases_of, basis_at, basis_of, by_need, by_tables, by_text}
-use Rattle.frz_premises.specs.Deciding.{decided_by, decides, is_place, line_at}
+use Rattle.frz_exits.specs.Fitting.{line_at}
+use Rattle.frz_premises.specs.Deciding.{decided_by, decides, is_place}
 use Rattle.frz_backs.specs.Loaded.{link_loaded}
 use Rattle.frz_premises.specs.Saying.{none_says, says_as_much, says_at_each}
 use Rattle.frz_premises.specs.Trials.{AreTried, IsHeard, IsTried, boards_after, is_outside, is_some_there}

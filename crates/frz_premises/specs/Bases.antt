@@ -3,8 +3,8 @@ use Rattle.std.specs.Prelude.{ℕ, Bool, true, false, List, [], ◌∷◌, map, 
 use Rattle.std.specs.List.{enumerate_from, position_from}
 use Rattle.frz_board.specs.Boards.{Board}
 use Rattle.frz_sets.specs.declared.exit.Value.{Value}
-use Rattle.frz_sets.specs.declared.exit.Value.TheVariants.{WhiteWins, BlackWins, Draw, WhiteHolds, BlackHolds, Unknown, WhiteWinsIn, BlackWinsIn}
 use Rattle.frz_sets.specs.Views.{GroupLine, ExitLine, RuleLines}
+use Rattle.frz_exits.specs.Values.{is_unknown}
 use Rattle.frz_game.specs.TextsByMen.{is_true_by}
 use Rattle.frz_backs.specs.Links.{Link}
 use Rattle.frz_premises.specs.declared.basis.Basis.{Basis}
@@ -12,16 +12,6 @@ use Rattle.frz_premises.specs.declared.basis.Basis.TheVariants.{AsksNothing, ByM
 use Rattle.frz_premises.specs.Deciding.{decided_by}
 use Rattle.frz_premises.specs.Saying.{none_says, says_at_each}
 use Rattle.frz_premises.specs.WaysOut.{outside_of}
-
-abbrev pub is_unknown : Value → Bool
-is_unknown WhiteWins = false
-is_unknown BlackWins = false
-is_unknown Draw = false
-is_unknown WhiteHolds = false
-is_unknown BlackHolds = false
-is_unknown Unknown = true
-is_unknown (WhiteWinsIn n) = false
-is_unknown (BlackWinsIn n) = false
 
 -- what the text alone shows of a line that decides some exit: an unknown value asks nothing, and
 -- the men may show the value to be true

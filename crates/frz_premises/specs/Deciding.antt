@@ -1,13 +1,8 @@
--- Which exit line decides a position: the first all of whose conditions hold.
+-- Which positions an exit line decides.
 use Rattle.std.specs.Prelude.{ℕ, Bool, false, ◌==◌, List, filter, Option, Some, None}
-use Rattle.std.specs.List.{position_from}
 use Rattle.frz_board.specs.Boards.{Board}
 use Rattle.frz_sets.specs.Views.{ExitLine}
-use Rattle.frz_exits.specs.Conditions.{conditions_hold}
-
--- the place of the first line all of whose conditions hold at the position; the first has place 0
-abbrev pub line_at : List ExitLine → Board → Option ℕ
-line_at lines q = position_from (λ line. conditions_hold q line.conds) 0 lines
+use Rattle.frz_exits.specs.Fitting.{line_at}
 
 abbrev pub is_place : ℕ → Option ℕ → Bool
 is_place i None = false

@@ -11,7 +11,7 @@ use Rattle.frz_game.specs.TextsByMen.{is_true_by}
 use Rattle.frz_backs.specs.Links.{Link}
 use Rattle.frz_premises.specs.declared.basis.Basis.{Basis}
 use Rattle.frz_premises.specs.declared.basis.Basis.TheVariants.{AsksNothing, ByMen, ByTable, ByTables, Believed}
-use Rattle.frz_premises.specs.Bases.{is_unknown}
+use Rattle.frz_exits.specs.Values.{is_unknown}
 use Rattle.frz_premises.specs.Deciding.{decides}
 use Rattle.frz_premises.specs.Saying.{says_as_much}
 

@@ -5,8 +5,6 @@ ghost use Rattle.frz_fide.specs.Legal.{is_legal};
 ghost use Rattle.frz_fide.specs.Valid.{IsValid};
 ghost use Rattle.frz_sets.specs.Sets.{size_of};
 ghost use Rattle.frz_sets.specs.Sound.{IsSound};
-ghost use Rattle.frz_exits.specs.Conditions.{conditions_hold};
-ghost use Rattle.frz_premises.specs.Deciding as deciding;
 ghost use Rattle.frz_backs.specs.Loaded.{link_loaded};
 ghost use Rattle.frz_premises.specs.Trials.{AreTried, boards_after};
 ghost use Rattle.frz_premises.specs.WaysOut.{outside_below, outside_of};
@@ -15,28 +13,12 @@ use crate::silent::Silent;
 use crate::trial::Trial;
 use frz_bits::Bitboards;
 use frz_chain::BackTable;
-use frz_exits::all_hold;
+use frz_exits::fitting_line;
 use frz_fide::after;
 use frz_game::{Arm, Game, Lists, Next};
-use frz_sets::{Exit, Rules};
+use frz_sets::Rules;
 use frz_steps::Steps;
 use std::sync::ledger::Ledger;
-
-/// Do all conditions of the line hold at the position?
-fn fits(line: &Exit, q: &Bitboards) -> bool
-    requires { IsValid q.now }
-    ensures { result ≡ conditions_hold q.now line.now.conds }
-{
-    all_hold(&line.conds, q)
-}
-
-/// The place of the line that decides the position: the first that fits.
-fn line_at(lines: &[Exit], q: &Bitboards) -> Option<usize>
-    requires { IsValid q.now }
-    ensures { result ≡ deciding.line_at lines.now q.now }
-{
-    lines.iter().position(|line| fits(line, q))
-}
 
 /// Notes an exit with the line that decides it.
 fn note(trials: &mut [Trial], rules: &Rules, backs: &[BackTable], q: &Bitboards)
@@ -47,7 +29,7 @@ fn note(trials: &mut [Trial], rules: &Rules, backs: &[BackTable], q: &Bitboards)
     ensures { (qs : List Board) → AreTried rules.now (map link_loaded backs.now) qs trials.old →
         AreTried rules.now (map link_loaded backs.now) (qs ++ q.now ∷ []) trials.new }
 {
-    if let Some(i) = line_at(&rules.exits, q) {
+    if let Some(i) = fitting_line(&rules.exits, q) {
         let value = rules.exits[i].value;
         trials[i].note(value, backs, q);
     }

@@ -1,7 +1,8 @@
 use Rattle.std.proofs.Common.{◌≡◌, ◌∙◌, ◌<◌, List, Some, map, refl, sym, ap, length, get_or, arith}
 use Rattle.std.proofs.lemmas.List.{get_or_read_under, length-map}
 use Rattle.frz_sets.specs.Views.{ExitLine, RuleLines}
-use Rattle.frz_premises.specs.Deciding.{decided_by, line_at}
+use Rattle.frz_exits.specs.Fitting.{line_at}
+use Rattle.frz_premises.specs.Deciding.{decided_by}
 use Rattle.frz_backs.specs.Loaded.{link_loaded}
 use Rattle.frz_premises.proofs.Trying.{none_decides, one_decides, place_below}
 use Rattle.frz_premises.proofs.walk.note.Goals as goal
@@ -69,7 +70,7 @@ returns-in-Some c qs tried =
 
 pub returns-in_default : goal.returns-in_default
 returns-in_default c qs tried =
-    let none = sym c.in_default.is ∙ c.line_at.ensures
+    let none = sym c.in_default.is ∙ c.fitting_line.ensures
     ∙ ap (λ (ls : List ExitLine). line_at ls c.args.q.now)
     (c.deref.ensures.value ∙ ap (λ (r : RuleLines). r.exits) c.rules.view_is) in
     none_decides c.args.rules.now (map link_loaded c.args.backs.now) qs c.args.q.now
