@@ -12,8 +12,9 @@ use Rattle.frz_commands_atlas.specs.Reporting.{report_words}
 use Rattle.frz_commands_atlas.specs.Sizing.{size_words}
 use Rattle.frz_commands_journeys.specs.Journeying.{line_words, play_words}
 use Rattle.frz_commands_premises.specs.Premising.{premises_words}
+use Rattle.frz_commands_why.specs.Asking.{why_words}
 use Rattle.atlas.specs.declared.verb.Verb.{Verb}
-use Rattle.atlas.specs.declared.verb.Verb.TheVariants.{Build, Check, Query, Each, Line, Play, Premises, Report, Size}
+use Rattle.atlas.specs.declared.verb.Verb.TheVariants.{Build, Check, Query, Each, Line, Play, Why, Premises, Report, Size}
 use Rattle.atlas.specs.Verbs.{command_of}
 
 -- the job of a command and the words behind it
@@ -24,6 +25,7 @@ job_by (Some (Query, words)) = querying_words Atlas words
 job_by (Some (Each, words)) = each_words words
 job_by (Some (Line, words)) = line_words words
 job_by (Some (Play, words)) = play_words words
+job_by (Some (Why, words)) = why_words words
 job_by (Some (Premises, words)) = premises_words words
 job_by (Some (Report, words)) = report_words words
 job_by (Some (Size, words)) = size_words words

@@ -3,7 +3,7 @@ use Rattle.std.specs.Prelude.{ℕ, List, [], ◌∷◌, Option, Some, None, if�
 use Rattle.std.specs.Option.{option_map}
 use Rattle.std.specs.Str.{bytes_eq}
 use Rattle.atlas.specs.declared.verb.Verb.{Verb}
-use Rattle.atlas.specs.declared.verb.Verb.TheVariants.{Build, Check, Query, Each, Line, Play, Premises, Report, Size}
+use Rattle.atlas.specs.declared.verb.Verb.TheVariants.{Build, Check, Query, Each, Line, Play, Why, Premises, Report, Size}
 
 abbrev pub verb_of : List ℕ → Option Verb
 verb_of word =
@@ -13,9 +13,10 @@ verb_of word =
     (if bytes_eq word (codes "each") then Some Each else
     (if bytes_eq word (codes "line") then Some Line else
     (if bytes_eq word (codes "play") then Some Play else
+    (if bytes_eq word (codes "why") then Some Why else
     (if bytes_eq word (codes "premises") then Some Premises else
     (if bytes_eq word (codes "report") then Some Report else
-    (if bytes_eq word (codes "size") then Some Size else None))))))))
+    (if bytes_eq word (codes "size") then Some Size else None)))))))))
 
 -- the command that the first word names, and the words behind it
 abbrev pub command_of : List (List ℕ) → Option (Verb × List (List ℕ))

@@ -7,6 +7,7 @@ ghost use Rattle.atlas.specs.Commands.{job_of};
 pub mod calls;
 
 use frz_commands_journeys::laws::{one_line_answer, one_play_answer};
+use frz_commands_why::laws::why_lawful;
 
 /// For all words, the call has exactly one answer over any files and any input. Over files of
 /// bytes, that answer means what its command promises.
@@ -15,4 +16,5 @@ pub fn one_answer()
 {
     one_line_answer();
     one_play_answer();
+    why_lawful();
 }

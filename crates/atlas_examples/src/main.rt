@@ -11,6 +11,7 @@ use frz_commands_atlas::{run_build, run_check, run_each};
 use frz_commands_journeys::{run_line as play_line, run_play};
 use frz_commands_premises::run_premises;
 use frz_commands_table::build;
+use frz_commands_why::run_why;
 use frz_prelude::tell;
 use frz_steps::Steps;
 use frz_store::{DiskStore, InputSource, OutputSink, Sink, Source, Store};
@@ -57,6 +58,7 @@ fn run_command<S: Store, I: Source, O: Sink, L: Ledger>(
         "line" => play_line(alloc, rest, store, out, steps),
         "play" => run_play(alloc, rest, store, input, out, steps),
         "premises" => run_premises(alloc, rest, store, out, steps),
+        "why" => run_why(alloc, rest, store, out, steps),
         "query" => tell(query_kind(alloc, FileKind::Atlas, rest, store), out),
         _ => refuse(Refusal::NoCommand, out),
     }

@@ -44,6 +44,13 @@ returns-in-Some-Play-default-clause-ran g c =
     as_command _ _ _ _ _ (rw c.in-Some-Play-default.field-0-0-is at
     c.in-Some-Play-default.ensures) c.run_play.ensures.ran
 
+pub returns-in-Some-Why-default-clause-ran :
+    goal.returns-in-Some-Why-default-clause-ran
+returns-in-Some-Why-default-clause-ran g c =
+    as_command _ _ _ _ _ (rw c.in-Some-Why-default.field-0-0-is at
+    c.in-Some-Why-default.ensures)
+    (c.run_why.ensures.ran (source_of g.I.Source c.args.input.now))
+
 pub returns-in-Some-Premises-default-clause-ran :
     goal.returns-in-Some-Premises-default-clause-ran
 returns-in-Some-Premises-default-clause-ran g c =

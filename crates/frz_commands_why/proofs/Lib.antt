@@ -1,0 +1,13 @@
+pub mod Deciders
+pub mod Places
+pub mod Loaded
+pub mod Told
+pub mod OneDenial
+pub mod OneTelling
+pub mod DenialsTell
+pub mod BestWay
+pub mod Running
+pub mod Inside
+pub mod Named
+pub mod WhyMeans
+pub mod Lawful

@@ -1,0 +1,338 @@
+-- How `why` ends, by what was loaded of the tables and told of the position.
+use Rattle.std.proofs.Common.{◌≡◌, ◌⊎◌, refl, sym, ap, subst, ◌∙◌, ℕ, ◌+◌, ◌≤◌, List, [], ◌∷◌, ◌++◌, length, slice_index, Bool, true, false, Option, Some, None, Result, Ok, Err, inl, inr, arith}
+use Rattle.std.specs.Prelude.{map, MatchBool, if◌then◌else◌}
+use Rattle.std.specs.Option.{unwrap_or}
+use Rattle.frz_board.specs.Boards.{Board}
+use Rattle.frz_board.specs.declared.man.Colour.{Colour}
+use Rattle.frz_board.specs.declared.man.Colour.TheVariants.{White, Black}
+use Rattle.frz_fide.specs.Listing.{legal_moves_of}
+use Rattle.frz_graph.specs.EntryCodes.{of_side}
+use Rattle.frz_index.specs.Members.{Num}
+use Rattle.frz_game.specs.Numbers.{is_member}
+use Rattle.frz_game.specs.declared.wrong.Wrong.{Wrong as WrongEntry}
+use Rattle.frz_store.specs.Files.{Files}
+use Rattle.frz_store.specs.Told.{StoreTold, SourceTold, SinkTold, StoreFine, StoreQuiet}
+use Rattle.frz_table.specs.declared.fault.TableFault.{TableFault}
+use Rattle.frz_table.specs.Opening.{Contents, contents_of}
+use Rattle.frz_check.specs.Kept.{kept_codes}
+use Rattle.frz_chain.specs.Books.{Back}
+use Rattle.frz_chain.specs.FileOn.{back_of, loaded_back}
+use Rattle.frz_chain.specs.declared.back.BackTable.{BackTable}
+use Rattle.frz_backs.specs.Links.{Link, value_over}
+use Rattle.frz_backs.specs.Loaded.{leans_as, link_loaded}
+use Rattle.frz_backs.proofs.Lemmas.{loaded_backs}
+use Rattle.frz_atlas.specs.Behind.{TableBytes, backs_in, leans, link_of}
+use Rattle.frz_atlas.specs.Causes.{HasAtlasCause}
+use Rattle.frz_atlas.specs.Held.{all_held}
+use Rattle.frz_atlas.specs.Loading.{opened_all, opened_own}
+use Rattle.frz_atlas.specs.declared.fault.AtlasFault.{AtlasFault}
+use Rattle.frz_atlas.specs.declared.fault.AtlasFault.TheVariants.{Rules, Table, Back as BackAt, Failed, NoMemory}
+use Rattle.frz_atlas.specs.declared.fault.BackFault.TheVariants.{Refused, Wrong}
+use Rattle.frz_atlas.proofs.Lemmas.{kept_backs}
+use Rattle.frz_answer.specs.declared.end.End.{End}
+use Rattle.frz_answer.specs.declared.fault.Fault.TheVariants as stops
+use Rattle.frz_answer.specs.Answers.{Answer, SomeAnswer, says}
+use Rattle.frz_answer.specs.Ends.{Ran, Said}
+use Rattle.frz_answer.specs.Jobs.{Job, WithinCosts}
+use Rattle.frz_answer.specs.Statuses.{OneOf}
+use Rattle.frz_answer.specs.World.{World, world, Agrees, spent}
+use Rattle.frz_answer.proofs.Lemmas.{Begun, SaysAll, fine_store, quiet_both, said, stopped}
+use Rattle.frz_prelude.specs.Refusals.{refusal_line, status_of}
+use Rattle.frz_prelude.specs.declared.refused.Refused.TheVariants as refusals
+use Rattle.frz_prelude.proofs.Lemmas.{found_where, refusal_said, table_own}
+use Rattle.frz_atlas_prelude.specs.Ending.{EndsAt}
+use Rattle.frz_atlas_prelude.specs.Names.{has_twice}
+use Rattle.frz_atlas_prelude.proofs.Lemmas.{AnswersAt, Holds, MayEndAt, back_said, ended_at, holds}
+use Rattle.frz_exit_lines.specs.Numbers.{exit_numbers_of}
+use Rattle.frz_commands_why.specs.Asking.{asking_at}
+use Rattle.frz_commands_why.specs.Costs.{steps_by, why_costs}
+use Rattle.frz_commands_why.specs.Deciders.{decider_of, leaning_on}
+use Rattle.frz_commands_why.specs.Ending.{EndsIn, EndsEarly, EndsLoaded, codes_loaded, stepping_in}
+use Rattle.frz_commands_why.specs.Loading.{IsUnopened, LoadsTables, RefusesTables, WithinOwn}
+use Rattle.frz_commands_why.specs.Telling.{EndsWhy, telling_steps, why_text}
+use Rattle.frz_commands_why.specs.Texts.{status_by, wrong_text}
+use Rattle.frz_commands_why.specs.WhyOf.{IsToldOf, IsWhyAnswer, IsWhyAt, IsWhyBehind, IsWhyBy, IsWhyOver, code_at, decider_behind, value_behind}
+use Rattle.frz_commands_why.proofs.OneTelling.{WayThere, told_there}
+
+abbrev Opened : Type 0
+Opened = Result (List TableBytes) (ℕ × TableFault)
+
+-- the answer by what the names hold
+module _ (table : List ℕ) (behind : List (List ℕ)) (side : Colour) (p : Board) (files : Files)
+    (held : Option (List ℕ)) (helds : List (Option (List ℕ))) (here : files table ≡ held)
+    (others : map files behind ≡ helds) where
+  answer_at : (a : Answer) (x : Result Contents TableFault) (y : Opened)
+      → opened_own held ≡ x → opened_all helds ≡ y
+      → IsWhyBy x (unwrap_or held []) y side p files a → IsWhyAt table behind side p files a
+  answer_at a x y opens are h =
+      subst (λ (o : Option (List ℕ)). IsWhyBy (opened_own o) (unwrap_or o [])
+      (opened_all (map files behind)) side p files a) (sym here)
+      (subst (λ (l : List (Option (List ℕ))). IsWhyBy (opened_own held) (unwrap_or held [])
+      (opened_all l) side p files a) (sym others)
+      (subst (λ (r : Result Contents TableFault). IsWhyBy r (unwrap_or held []) (opened_all helds)
+      side p files a) (sym opens)
+      (subst (λ (r : Opened). IsWhyBy x (unwrap_or held []) r side p files a) (sym are) h)))
+
+-- each answer says something
+line_said : (side : Colour) (code : ℕ) (text : List ℕ) (wrong : Option WrongEntry)
+    → why_text side code text wrong ≡ [] → ⊥
+line_said White code text wrong e = cc
+line_said Black code text wrong e = cc
+
+abbrev outside_answer : Files → Answer
+outside_answer files = says (status_of refusals.Outside) (refusal_line refusals.Outside) files
+
+module _ (there : WayThere) (side : Colour) (p : Board) (files : Files) where
+  some_over : (contents : Contents) (bytes : List ℕ) (tables : List TableBytes)
+      → SomeAnswer (IsWhyOver contents bytes tables side p files)
+  some_over contents bytes tables = by_member (is_member contents.rules.groups p)
+    where
+      by_member : (b : Bool) → SomeAnswer (λ a. MatchBool b
+          (IsWhyAnswer contents bytes tables side p files a) (a ≡ outside_answer files))
+      by_member true =
+          let tale = told_there contents.rules (value_behind contents bytes tables) side
+          (kept_codes contents bytes side) (decider_behind contents bytes tables)
+          (Num contents.rules.groups p) there in
+          record {
+            a = says (status_by tale.wrong)
+                (why_text side (code_at contents bytes side p) tale.text tale.wrong) files;
+            answer = record {
+              text = tale.text;
+              wrong = tale.wrong;
+              told = tale.told;
+              is = refl;
+            };
+            text = line_said side (code_at contents bytes side p) tale.text tale.wrong;
+          }
+      by_member false = record {
+        a = outside_answer files;
+        answer = refl;
+        text = refusal_said refusals.Outside;
+      }
+
+  some_by : (x : Result Contents TableFault) (bytes : List ℕ) (y : Opened)
+      → SomeAnswer (IsWhyBy x bytes y side p files)
+  some_by (Ok contents) bytes (Ok tables) = some_over contents bytes tables
+  some_by (Ok contents) bytes (Err refused) = record {
+    a = _;
+    answer = refl;
+    text = back_said refused.0 (Refused refused.1);
+  }
+  some_by (Err fault) bytes y = record {
+    a = _;
+    answer = refl;
+    text = refusal_said (refusals.Table fault);
+  }
+
+  pub some_at : (table : List ℕ) (behind : List (List ℕ))
+      → SomeAnswer (IsWhyAt table behind side p files)
+  some_at table behind =
+      some_by (opened_own (files table)) (unwrap_or (files table) [])
+      (opened_all (map files behind))
+
+own_status : (wrong : Option WrongEntry) (table : List ℕ) (behind : List (List ℕ)) (side : Colour)
+    (p : Board) → OneOf (status_by wrong) (asking_at table behind side p).statuses
+own_status None table behind side p = refl
+own_status (Some w) table behind side p = refl
+
+module _ (there : WayThere) (table : List ℕ) (behind : List (List ℕ))
+    (apart : has_twice (table ∷ behind) ≡ false) (side : Colour) (p : Board)
+    (old new : StoreTold) (before now : ℕ) (quiet : StoreQuiet old new) (later : before ≤ now)
+    (input : SourceTold) (out : SinkTold) where
+  abbrev job : Job
+  job = asking_at table behind side p
+
+  abbrev start : World
+  start = world old input out before
+
+  abbrev mid : World
+  mid = world new input out now
+
+  spends : (held : Option (List ℕ)) (helds : List (Option (List ℕ)))
+      (h : Holds old.files table behind held helds) → WithinOwn held helds old new
+      → now ≤ before + steps_by (opened_own held) (unwrap_or held []) side p
+      → WithinCosts (why_costs side p (h.all.files table) (map h.all.files behind)) (spent start)
+      (spent mid)
+  spends held helds h within steps =
+      subst (λ (x : Option (List ℕ)). WithinCosts (why_costs side p x (map h.all.files behind))
+      (spent start) (spent mid)) (sym h.here)
+      (subst (λ (l : List (Option (List ℕ))). WithinCosts (why_costs side p held l) (spent start)
+      (spent mid)) (sym h.others)
+      (record { steps = steps; calls = within.calls; asked = within.asked }))
+
+  -- some answer over what the names hold
+  begun : (held : Option (List ℕ)) (helds : List (Option (List ℕ)))
+      (h : Holds old.files table behind held helds) → WithinOwn held helds old new
+      → now ≤ before + steps_by (opened_own held) (unwrap_or held []) side p
+      → (files : Files) (left : List ℕ) → Agrees start files left
+      → Begun job files left start mid
+  begun held helds h within steps files left agrees = record {
+    found = found_where job h.all.files files left start (λ e. cc) h.all.agrees agrees;
+    some = some_at there side p h.all.files table behind;
+    costs = spends held helds h within steps;
+  }
+
+  -- the tables were loaded
+  module _ (given : BackTable) (backs : List BackTable)
+      (l : LoadsTables table behind old new given backs)
+      (steps : now ≤ before + stepping_in given side p) where
+    abbrev contents : Contents
+    contents = contents_of given.table
+
+    abbrev h : Holds old.files table behind (Some l.bytes) (all_held l.tables)
+    h = holds old.files table behind apart (Some l.bytes) (all_held l.tables) l.may l.may_all
+
+    leaning : leans_as given.table.kind ≡ leans l.bytes
+    leaning = ap (λ (k : Link). k.leans) l.keeps
+
+    same_backs : map loaded_back backs ≡ backs_in l.tables
+    same_backs = sym (loaded_backs backs) ∙ kept_backs (map link_loaded backs) l.tables l.all_keep
+
+    same_codes : codes_loaded given side ≡ kept_codes contents l.bytes side
+    same_codes =
+        ap (λ (k : Link). of_side side k.back.white k.back.black) l.keeps ∙ by_side side
+      where
+        by_side : (s : Colour)
+            → of_side s (kept_codes contents l.bytes White) (kept_codes contents l.bytes Black)
+            ≡ kept_codes contents l.bytes s
+        by_side White = refl
+        by_side Black = refl
+
+    -- what was told by the loaded tables is told by those in the files
+    by_files : (number : ℕ) (end : End) (after : SinkTold)
+        → EndsLoaded given backs side number end out after
+        → EndsWhy contents.rules (value_behind contents l.bytes l.tables) side
+        (kept_codes contents l.bytes side) (decider_behind contents l.bytes l.tables) number end out
+        after
+    by_files number end after ends =
+        subst (λ (c : List ℕ). EndsWhy contents.rules (value_behind contents l.bytes l.tables) side c
+        (decider_behind contents l.bytes l.tables) number end out after) same_codes
+        (subst (λ (b : List Back). EndsWhy contents.rules
+        (value_over (leans l.bytes) contents.rules b) side (codes_loaded given side)
+        (decider_of (exit_numbers_of contents.text) contents.rules
+        (leaning_on (leans l.bytes) b)) number end out after) same_backs
+        (subst (λ (t : Bool). EndsWhy contents.rules
+        (value_over t contents.rules (map loaded_back backs)) side (codes_loaded given side)
+        (decider_of (exit_numbers_of contents.text) contents.rules
+        (leaning_on t (map loaded_back backs))) number end out after) leaning ends))
+
+    same_steps : now ≤ before + steps_by (opened_own (Some l.bytes)) l.bytes side p
+    same_steps =
+        subst (λ (n : ℕ). now ≤ before + n)
+        (ap (λ (c : List ℕ). if is_member contents.rules.groups p
+        then telling_steps (slice_index c (Num contents.rules.groups p))
+        (length (legal_moves_of p)) else 0) same_codes
+        ∙ sym (ap (λ (x : Result Contents TableFault). steps_by x l.bytes side p) l.opens)) steps
+
+    says_so : (a : Answer) (files : Files) → (left : List ℕ) → Agrees start files left
+        → IsWhyOver contents l.bytes l.tables side p h.all.files a
+        → IsWhyAt table behind side p h.all.files a
+    says_so a files left agrees over =
+        answer_at table behind side p h.all.files (Some l.bytes) (all_held l.tables) h.here
+        h.others a (Ok contents) (Ok l.tables) l.opens l.all_open over
+
+    by_member : (b : Bool) → is_member contents.rules.groups p ≡ b → (end : End)
+        (after : SinkTold) → StoreFine old new
+        → MatchBool b (EndsEarly end out after
+        ⊎ EndsLoaded given backs side (Num contents.rules.groups p) end out after)
+        (Said (status_of refusals.Outside) (refusal_line refusals.Outside) end out after)
+        → Ran job end start (world new input after now)
+    by_member true inside end after fine (inl early) =
+        subst (λ (o : SinkTold). Ran job end start (world new input o now)) (sym early.1)
+        (subst (λ (e : End). Ran job e start mid) (sym early.0)
+        (stopped job stops.NoMemory start mid (quiet_both old new input out before now quiet later)
+        refl (begun (Some l.bytes) (all_held l.tables) h l.within same_steps)))
+    by_member true inside end after fine (inr ends) =
+        let told = by_files (Num contents.rules.groups p) end after ends in
+        said job (status_by told.wrong)
+        (why_text side (code_at contents l.bytes side p) told.text told.wrong) end start mid after
+        (quiet_both old new input out before now quiet later)
+        (fine_store old new input out before now fine)
+        (own_status told.wrong table behind side p) told.said
+        (λ files left agrees. record {
+          found = found_where job h.all.files files left start (λ e. cc) h.all.agrees agrees;
+          answer = says_so _ files left agrees
+              (subst (λ (b : Bool). MatchBool b
+              (IsWhyAnswer contents l.bytes l.tables side p h.all.files
+              (says (status_by told.wrong)
+              (why_text side (code_at contents l.bytes side p) told.text told.wrong)
+              h.all.files))
+              (says (status_by told.wrong)
+              (why_text side (code_at contents l.bytes side p) told.text told.wrong) h.all.files
+              ≡ outside_answer h.all.files)) (sym inside)
+              (record { text = told.text; wrong = told.wrong; told = told.told; is = refl }));
+          costs = spends (Some l.bytes) (all_held l.tables) h l.within same_steps;
+        })
+    by_member false inside end after fine refused =
+        said job (status_of refusals.Outside) (refusal_line refusals.Outside) end start mid after
+        (quiet_both old new input out before now quiet later)
+        (fine_store old new input out before now fine) refl refused
+        (λ files left agrees. record {
+          found = found_where job h.all.files files left start (λ e. cc) h.all.agrees agrees;
+          answer = says_so _ files left agrees
+              (subst (λ (b : Bool). MatchBool b
+              (IsWhyAnswer contents l.bytes l.tables side p h.all.files
+              (outside_answer h.all.files))
+              (outside_answer h.all.files ≡ outside_answer h.all.files)) (sym inside) refl);
+          costs = spends (Some l.bytes) (all_held l.tables) h l.within same_steps;
+        })
+
+    pub told_so : (end : End) (after : SinkTold) → StoreFine old new
+        → EndsIn given backs side p end out after → Ran job end start (world new input after now)
+    told_so end after fine ends =
+        by_member (is_member contents.rules.groups p) refl end after fine ends
+
+  -- something is refused, or could not be read
+  module _ (fault : AtlasFault) (r : RefusesTables table behind old new fault)
+      (steps : now ≤ before) where
+    abbrev k : Holds old.files table behind r.held r.helds
+    k = holds old.files table behind apart r.held r.helds r.may r.may_all
+
+    no_steps : now ≤ before + steps_by (opened_own r.held) (unwrap_or r.held []) side p
+    no_steps = omega arith
+
+    costs : WithinCosts (why_costs side p (k.all.files table) (map k.all.files behind))
+        (spent start) (spent mid)
+    costs = spends r.held r.helds k r.within no_steps
+
+    some : (files : Files) (left : List ℕ) → Agrees start files left
+        → Begun job files left start mid
+    some = begun r.held r.helds k r.within no_steps
+
+    may_end : (T : Type 0) (f : AtlasFault) → IsUnopened r.held r.helds f
+        → HasAtlasCause {T = T} (Err f) old new → MayEndAt job f start mid
+    may_end T (Rules f) refused cause = absurd refused
+    may_end T (Table f) refused cause =
+        (table_own f job.statuses refl refl, fine_store old new input out before now cause)
+    may_end T (BackAt place (Refused f)) refused cause =
+        (table_own f job.statuses refl refl, fine_store old new input out before now cause)
+    may_end T (BackAt place (Wrong wrong)) refused cause = absurd refused
+    may_end T Failed refused cause = (refl, cause)
+    may_end T NoMemory refused cause = refl
+
+    answers_at : (f : AtlasFault) → IsUnopened r.held r.helds f → (files : Files)
+        (left : List ℕ) → Agrees start files left → AnswersAt job f files left start mid
+    answers_at (Rules f) refused files left agrees = absurd refused
+    answers_at (Table f) refused files left agrees = record {
+      found = found_where job k.all.files files left start (λ e. cc) k.all.agrees agrees;
+      answer = answer_at table behind side p k.all.files r.held r.helds k.here k.others _ (Err f)
+          (opened_all r.helds) refused refl refl;
+      costs = costs;
+    }
+    answers_at (BackAt place (Refused f)) refused files left agrees = record {
+      found = found_where job k.all.files files left start (λ e. cc) k.all.agrees agrees;
+      answer = answer_at table behind side p k.all.files r.held r.helds k.here k.others _
+          (Ok refused.0.0) (Err (place, f)) refused.0.1 refused.1 refl;
+      costs = costs;
+    }
+    answers_at (BackAt place (Wrong wrong)) refused files left agrees = absurd refused
+    answers_at Failed refused files left agrees = some files left agrees
+    answers_at NoMemory refused files left agrees = some files left agrees
+
+    pub refused_so : (T : Type 0) (end : End) (after : SinkTold)
+        → HasAtlasCause {T = T} (Err fault) old new → EndsAt fault end out after
+        → Ran job end start (world new input after now)
+    refused_so T end after cause ends =
+        ended_at job end start mid after (quiet_both old new input out before now quiet later) fault
+        (may_end T fault r.refuses cause) ends
+        (λ files left agrees. answers_at fault r.refuses files left agrees)

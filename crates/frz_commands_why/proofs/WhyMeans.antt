@@ -1,0 +1,346 @@
+-- What the answers of `why` mean.
+use Rattle.std.proofs.Common.{◌≡◌, ◌≢◌, refl, sym, ap, subst, ◌∙◌, ℕ, ◌+◌, ◌*◌, ◌-◌, ◌/◌, ◌≤◌, Bool, true, false, List, [], ◌∷◌, ◌++◌, length, Option, Some, None, Result, Ok, Err, append-nil, append_assoc, slice_index, arith}
+use Rattle.std.specs.Prelude.{map, MatchBool}
+use Rattle.std.specs.Option.{unwrap_or}
+use Rattle.std.proofs.lemmas.Bool.Decides.{nat_tests}
+use Rattle.frz_board.specs.Boards.{Board}
+use Rattle.frz_board.specs.Men.{other_of}
+use Rattle.frz_board.specs.Moving.{Step}
+use Rattle.frz_board.specs.declared.man.Colour.{Colour}
+use Rattle.frz_sets.specs.Sets.{size_of}
+use Rattle.frz_sets.specs.declared.exit.Value.{Value}
+use Rattle.frz_sets.specs.Views.{RuleLines}
+use Rattle.frz_index.specs.Members.{Member, Num}
+use Rattle.frz_index.proofs.Lemmas.{Num_below, member_of, of_member, position_of}
+use Rattle.frz_rules.specs.Text.{rules_of}
+use Rattle.frz_arena.specs.declared.arm.Arm.{Arm}
+use Rattle.frz_arena.specs.declared.bound.Bound.{Bound}
+use Rattle.frz_arena.specs.declared.bound.Bound.TheVariants.{Wins, Holds, Fails}
+use Rattle.frz_arena.specs.Codes.{code_of, is_failure, is_win}
+use Rattle.frz_game.specs.Bounds.{IsTableOf}
+use Rattle.frz_game.specs.Games.{graph_by}
+use Rattle.frz_game.specs.Numbers.{is_member, position_at}
+use Rattle.frz_game.specs.declared.wrong.Wrong.{Wrong as WrongEntry}
+use Rattle.frz_game.proofs.Lemmas.{table_exact}
+use Rattle.frz_store.specs.Files.{Files, bytes_at}
+use Rattle.frz_table.specs.declared.fault.TableFault.{TableFault}
+use Rattle.frz_table.specs.declared.fault.TableFault.TheVariants as table_faults
+use Rattle.frz_table.specs.Opening.{Contents, opened, table_format}
+use Rattle.frz_table.proofs.Lemmas.{belongs, opened_missing}
+use Rattle.frz_check.specs.Kept.{kept_codes}
+use Rattle.frz_check.specs.KeptTables.{KeepsBound, KeepsTables}
+use Rattle.frz_check.proofs.Lemmas.{bound_kept}
+use Rattle.frz_chain.specs.Books.{Back}
+use Rattle.frz_backs.specs.Links.{value_over}
+use Rattle.frz_backs.specs.Values.{atlas_value}
+use Rattle.frz_backs.proofs.Lemmas.{lines_alone}
+use Rattle.frz_atlas.specs.Behind.{TableBytes, kind_of, leans}
+use Rattle.frz_atlas.specs.Loading.{opened_all, opened_own}
+use Rattle.frz_atlas.specs.declared.fault.BackFault.TheVariants.{Refused}
+use Rattle.frz_answer.specs.declared.status.Status.{Status}
+use Rattle.frz_answer.specs.declared.status.Status.TheVariants as statuses
+use Rattle.frz_answer.specs.Answers.{Answer, says}
+use Rattle.frz_prelude.specs.BoundLines.{kept_line}
+use Rattle.frz_prelude.specs.Refusals.{refusal_line, status_of, table_status}
+use Rattle.frz_prelude.specs.TableCauses.{table_line}
+use Rattle.frz_prelude.specs.declared.refused.Refused.TheVariants as refusals
+use Rattle.frz_prelude.proofs.Lemmas.{by_table_status}
+use Rattle.frz_atlas_prelude.specs.BackLines.{back_line}
+use Rattle.frz_atlas_prelude.proofs.Lemmas.{not_both}
+use Rattle.frz_reasons.specs.declared.denial.Denial.{Denial}
+use Rattle.frz_reasons.specs.declared.reason.Reason.{Reason}
+use Rattle.frz_reasons.specs.declared.reason.Reason.TheVariants.{Wrong, Mated, Renounced, Left}
+use Rattle.frz_reasons.specs.Denials.{DeniesWin}
+use Rattle.frz_reasons.specs.FailingGames.{EndsAt, HasLeft, IsGameFrom, IsRight, IsSpoiled, position_behind}
+use Rattle.frz_reasons.specs.FailingWays.{FailsFrom}
+use Rattle.frz_reasons.specs.ReasonTexts.{denials_text, moves_text}
+use Rattle.frz_commands_why.specs.declared.decider.Decider.{Decider}
+use Rattle.frz_commands_why.specs.Deciders.{decider_of, leaning_on}
+use Rattle.frz_commands_why.specs.Decides.{Decides}
+use Rattle.frz_commands_why.specs.Meaning.{MeansStatus, MeansWhy, Opens, TellsAll, TellsBound, TellsHold, TellsNone, TellsWin, TellsWrong, TellsRefusal, of_back, of_table, wins as wins_told, holds as hold_told, fails as failure_told}
+use Rattle.frz_commands_why.specs.Telling.{ToldAt, fails, holds, neither, why_text, wins}
+use Rattle.frz_commands_why.specs.Texts.{end_text, position_after, status_by, wrong_in, wrong_text}
+use Rattle.frz_commands_why.specs.WhyOf.{IsToldOf, IsWhyAnswer, IsWhyAt, IsWhyBehind, IsWhyBy, IsWhyOver, backs_behind, code_at, decider_behind, value_behind}
+use Rattle.frz_commands_why.proofs.BestWay.{BestLaws, best_way}
+use Rattle.frz_commands_why.proofs.Deciders.{decides}
+use Rattle.frz_commands_why.proofs.DenialsTell.{denials_are, none_wrong}
+
+-- the laws of failing ways on which this rests
+pub record WayLaws : Type 0 where
+  pub moves : (rules : RuleLines) (value : Board → Value) (side : Colour) (codes : List ℕ)
+      (start : ℕ) (arms : List (Arm Step ℕ Value)) (reason : Reason) (p : Board) →
+      position_at rules.groups start ≡ Some p →
+      FailsFrom (graph_by rules value) side codes start arms reason →
+      IsGameFrom rules side p arms
+  pub end : (rules : RuleLines) (value : Board → Value) (side : Colour) (codes : List ℕ)
+      (start : ℕ) (arms : List (Arm Step ℕ Value)) (reason : Reason) (p : Board) →
+      position_at rules.groups start ≡ Some p →
+      FailsFrom (graph_by rules value) side codes start arms reason →
+      EndsAt rules value side (position_behind p arms) reason
+  pub length_is : (rules : RuleLines) (value : Board → Value) (side : Colour) (codes : List ℕ)
+      (start n : ℕ) (arms : List (Arm Step ℕ Value)) (reason : Reason) →
+      slice_index codes start ≡ 3 + 2 * n →
+      FailsFrom (graph_by rules value) side codes start arms reason →
+      IsRight reason → length arms ≡ n
+  pub right : (rules : RuleLines) (value : Board → Value) (side : Colour) (codes : List ℕ) →
+      IsTableOf rules value side codes →
+      (start : ℕ) (arms : List (Arm Step ℕ Value)) (reason : Reason) →
+      FailsFrom (graph_by rules value) side codes start arms reason → IsRight reason
+  pub spoiled : (rules : RuleLines) (value : Board → Value) (side : Colour) (codes : List ℕ)
+      (start : ℕ) (arms : List (Arm Step ℕ Value)) (reason : Reason) →
+      is_failure (slice_index codes start) ≡ true →
+      FailsFrom (graph_by rules value) side codes start arms reason → IsSpoiled side reason
+  pub best : BestLaws
+
+failure_plies : (c : ℕ) → is_failure c ≡ true → c ≡ 3 + 2 * ((c - 3) / 2)
+failure_plies c f = grind (arith, nat_tests)
+
+win_plies : (c : ℕ) → is_win c ≡ true → c ≡ 2 + 2 * ((c - 2) / 2)
+win_plies c w = grind (arith, nat_tests)
+
+-- no code of a bound is 0
+bound_some : (b : Bound) → code_of b ≡ 0 → ⊥
+bound_some (Wins n) e = omega arith
+bound_some Holds e = omega arith
+bound_some (Fails m) e = omega arith
+
+no_more : (line text : List ℕ) → line ++ (text ++ []) ≡ line ++ text
+no_more line text = ap (λ (l : List ℕ). line ++ l) (append-nil text)
+
+-- the values behind exit lines, whether tables stand behind them or not
+as_atlas : (leaning : Bool) (rules : RuleLines) (backs : List Back) (q : Board) →
+    atlas_value rules (leaning_on leaning backs) q ≡ value_over leaning rules backs q
+as_atlas true rules backs q = refl
+as_atlas false rules backs q = lines_alone rules q
+
+not_right : (w : WrongEntry) → IsRight (Wrong w) → ⊥
+not_right w h = h
+
+module _ (laws : WayLaws) (table : List ℕ) (behind : List (List ℕ)) (side : Colour) (p : Board)
+    (files : Files) (a : Answer) where
+  means_so : (status : Status) (text : List ℕ) → a ≡ says status text files
+      → MeansStatus table behind side p files a status → MeansWhy table behind side p files a
+  means_so status text e means = record {
+    same = ap (λ (x : Answer). x.files) e;
+    untaken = ap (λ (x : Answer). x.taken) e;
+    says = subst (λ (s : Status). MeansStatus table behind side p files a s)
+        (sym (ap (λ (x : Answer). x.status) e)) means;
+  }
+
+  -- TABLE and the BACKs open, and the position is in the set
+  module _ (open_all : Opens table behind files)
+      (accepted : rules_of open_all.contents.text ≡ Ok open_all.contents.rules)
+      (inside : Member open_all.contents.rules.groups p) where
+    abbrev rules : RuleLines
+    rules = open_all.contents.rules
+
+    abbrev codes : List ℕ
+    codes = kept_codes open_all.contents open_all.bytes side
+
+    abbrev value : Board → Value
+    value = value_behind open_all.contents open_all.bytes open_all.tables
+
+    abbrev decider : Board → Decider
+    decider = decider_behind open_all.contents open_all.bytes open_all.tables
+
+    abbrev number : ℕ
+    number = Num rules.groups p
+
+    abbrev code : ℕ
+    code = code_at open_all.contents open_all.bytes side p
+
+    at : position_at rules.groups number ≡ Some p
+    at = position_of rules.groups number p (record { member = inside; number = refl })
+
+    where_exact : KeepsTables value open_all.contents open_all.bytes → (q : Board)
+        → Member rules.groups q
+        → KeepsBound rules value side q (code_at open_all.contents open_all.bytes side q)
+    where_exact kept q there = bound_kept value open_all.contents open_all.bytes kept side q there
+
+    means_bound : a.text ≡ a.text → TellsBound open_all.contents open_all.bytes open_all.tables side
+        p a.text → TellsAll table behind side p files a.text
+    means_bound same bound = record {
+      open_all = open_all;
+      inside = inside;
+      bound = bound;
+      where_exact = where_exact;
+    }
+
+    means_wrong : (lines : List ℕ) (w : WrongEntry)
+        → ToldAt rules value side codes decider number lines (Some w)
+        → a ≡ says (status_by (Some w)) (why_text side code lines (Some w)) files
+        → (KeepsTables value open_all.contents open_all.bytes → ⊥)
+        → MeansWhy table behind side p files a
+    means_wrong lines w told e never =
+        means_so statuses.Wrong (why_text side code lines (Some w)) e (record {
+          open_all = open_all;
+          inside = inside;
+          lines = lines;
+          wrong = w;
+          told = told;
+          text_is = ap (λ (x : Answer). x.text) e;
+          not_exact = never;
+        })
+
+    means_told : (text : List ℕ)
+        → a ≡ says (status_by None) (why_text side code text None) files
+        → TellsBound open_all.contents open_all.bytes open_all.tables side p a.text
+        → MeansWhy table behind side p files a
+    means_told text e bound =
+        means_so statuses.Success (why_text side code text None) e (means_bound refl bound)
+
+    text_is : (text : List ℕ)
+        → a ≡ says (status_by None) (why_text side code text None) files
+        → a.text ≡ kept_line side code ++ text
+    text_is text e = ap (λ (x : Answer). x.text) e ∙ no_more (kept_line side code) text
+
+    -- what decided a value outside
+    decided_so : (q : Board) (v : Value) → v ≡ value q
+        → Decides open_all.contents.text rules (backs_behind open_all.bytes open_all.tables) q v
+        (decider q)
+    decided_so q v is =
+        subst (λ (w : Value). Decides open_all.contents.text rules
+        (backs_behind open_all.bytes open_all.tables) q w (decider q))
+        (as_atlas (leans open_all.bytes) rules _ q ∙ sym is)
+        (decides open_all.contents.text rules accepted
+        (backs_behind open_all.bytes open_all.tables) q)
+
+    decided_at : (reason : Reason) (q : Board) → EndsAt rules value side q reason → (n : ℕ)
+        (m : Step) (v : Value) → reason ≡ Left n m v
+        → Decides open_all.contents.text rules (backs_behind open_all.bytes open_all.tables) q v
+        (decider q)
+    decided_at reason q ends n m v is =
+        let left : HasLeft rules value n m v q =
+        subst (λ (r : Reason). EndsAt rules value side q r) is ends in
+        decided_so q v left.valued
+
+    none_told : is_failure code ≡ true → (arms : List (Arm Step ℕ Value)) (reason : Reason)
+        → FailsFrom (graph_by rules value) side codes number arms reason → IsRight reason
+        → a.text ≡ kept_line side code
+        ++ (moves_text arms ++ end_text rules.groups decider reason)
+        → TellsNone open_all.contents open_all.bytes open_all.tables side p a.text
+    none_told failing arms reason way right told =
+        let plies = failure_plies code failing in
+        let ends = laws.end rules value side codes number arms reason p at way in
+        record {
+          plies = (code - 3) / 2;
+          none = plies;
+          arms = arms;
+          reason = reason;
+          way = way;
+          right = right;
+          many = laws.length_is rules value side codes number ((code - 3) / 2) arms reason plies way
+              right;
+          game = laws.moves rules value side codes number arms reason p at way;
+          ends = ends;
+          spoiled = laws.spoiled rules value side codes number arms reason failing way;
+          decided = decided_at reason (position_behind p arms) ends;
+          told = told;
+          best = λ kept. best_way laws.best rules value side codes (kept side) number arms reason
+              failing way;
+        }
+
+    by_reason : is_failure code ≡ true → (arms : List (Arm Step ℕ Value)) (reason : Reason)
+        → FailsFrom (graph_by rules value) side codes number arms reason
+        → a ≡ says (status_by (wrong_in reason)) (why_text side code
+        (moves_text arms ++ end_text rules.groups decider reason) (wrong_in reason)) files
+        → MeansWhy table behind side p files a
+    by_reason failing arms (Wrong w) way e =
+        means_wrong _ w (fails failing arms (Wrong w) way) e
+        (λ kept. laws.right rules value side codes (kept side) number arms (Wrong w) way)
+    by_reason failing arms Mated way e =
+        means_told _ e (failure_told (none_told failing arms Mated way tt (text_is _ e)))
+    by_reason failing arms Renounced way e =
+        means_told _ e (failure_told (none_told failing arms Renounced way tt (text_is _ e)))
+    by_reason failing arms (Left n m v) way e =
+        means_told _ e (failure_told (none_told failing arms (Left n m v) way tt (text_is _ e)))
+
+    by_wrong : code ≡ 1 → (denials : List Denial) (w : Option WrongEntry)
+        → DeniesWin (graph_by rules value) side codes number denials w
+        → a ≡ says (status_by w) (why_text side code (denials_text denials) w) files
+        → MeansWhy table behind side p files a
+    by_wrong hold denials None denied e =
+        means_told (denials_text denials) e (hold_told (record {
+          hold = hold;
+          denials = denials;
+          rows = denials_are rules value side codes number p at denials None denied refl;
+          told = text_is (denials_text denials) e;
+        }))
+    by_wrong hold denials (Some w) denied e =
+        means_wrong (denials_text denials) w (holds hold denials (Some w) denied) e
+        (λ kept. none_wrong rules value side codes number p at (kept side) denials w denied)
+
+    by_told : (text : List ℕ) (w : Option WrongEntry)
+        → ToldAt rules value side codes decider number text w
+        → a ≡ says (status_by w) (why_text side code text w) files
+        → MeansWhy table behind side p files a
+    by_told text w (wins win) e =
+        means_told [] e (wins_told (record {
+          plies = (code - 2) / 2;
+          win = win_plies code win;
+          told = text_is [] e ∙ append-nil (kept_line side code);
+        }))
+    by_told text w (holds hold denials x denied) e = by_wrong hold denials x denied e
+    by_told text w (fails failing arms reason way) e = by_reason failing arms reason way e
+    by_told text w (neither zero) e =
+        means_wrong [] _ (neither zero) e
+        (λ kept. let b = where_exact kept p inside in bound_some b.bound (sym b.is ∙ zero))
+
+  -- TABLE and the BACKs open
+  by_member : (open_all : Opens table behind files)
+      → rules_of open_all.contents.text ≡ Ok open_all.contents.rules → (b : Bool)
+      → is_member open_all.contents.rules.groups p ≡ b
+      → MatchBool b (IsWhyAnswer open_all.contents open_all.bytes open_all.tables side p files a)
+      (a ≡ says (status_of refusals.Outside) (refusal_line refusals.Outside) files)
+      → MeansWhy table behind side p files a
+  by_member open_all accepted true t h =
+      by_told open_all accepted (member_of open_all.contents.rules.groups p t) h.text h.wrong h.told
+      h.is
+  by_member open_all accepted false t h =
+      means_so statuses.Outside (refusal_line refusals.Outside) h (record {
+        open_all = open_all;
+        outside = λ member. (let no : true ≡ false =
+            sym (of_member open_all.contents.rules.groups p member) ∙ t in cc);
+        told = ap (λ (x : Answer). x.text) h;
+      })
+
+  abbrev Opened : Type 0
+  Opened = Result (List TableBytes) (ℕ × TableFault)
+
+  by_behind : (bytes : List ℕ) (contents : Contents) → files table ≡ Some bytes
+      → opened_own (Some bytes) ≡ Ok contents → (y : Opened) → opened_all (map files behind) ≡ y
+      → IsWhyBehind contents bytes y side p files a → MeansWhy table behind side p files a
+  by_behind bytes contents there opens (Ok tables) are h =
+      by_member (record {
+        bytes = bytes;
+        contents = contents;
+        open_file = record { there = there; opens = opens };
+        tables = tables;
+        all_open = are;
+      }) (belongs (table_format (kind_of bytes)) bytes contents opens).read
+      (is_member contents.rules.groups p) refl h
+  by_behind bytes contents there opens (Err refused) are h =
+      let refuses = of_back (contents, ap opened_own there ∙ opens) refused.0 refused.1 are h in
+      means_so _ _ h (by_table_status (λ s. MeansStatus table behind side p files a s) refused.1
+      refuses refuses)
+
+  by_held : (held : Option (List ℕ)) → files table ≡ held → (contents : Contents)
+      → opened_own held ≡ Ok contents
+      → IsWhyBehind contents (unwrap_or held []) (opened_all (map files behind)) side p files a
+      → MeansWhy table behind side p files a
+  by_held None there contents opens h =
+      absurd (not_both _ contents table_faults.Missing opens (opened_missing _))
+  by_held (Some bytes) there contents opens h =
+      by_behind bytes contents there opens (opened_all (map files behind)) refl h
+
+  by_opening : (x : Result Contents TableFault) → opened_own (files table) ≡ x
+      → IsWhyBy x (bytes_at files table) (opened_all (map files behind)) side p files a
+      → MeansWhy table behind side p files a
+  by_opening (Ok contents) opens h = by_held (files table) refl contents opens h
+  by_opening (Err fault) opens h =
+      let refuses = of_table fault opens h in
+      means_so _ _ h (by_table_status (λ s. MeansStatus table behind side p files a s) fault refuses
+      refuses)
+
+  pub why_means : IsWhyAt table behind side p files a → MeansWhy table behind side p files a
+  why_means h = by_opening (opened_own (files table)) refl h

@@ -1,0 +1,242 @@
+//! Tells why the bound of a side at a number is no better one, by codes in memory.
+ghost use Rattle.std.specs.Prelude.{◌≡◌, ◌≤◌, ◌<◌, ◌+◌, ◌/◌, ◌^◌, true, length, map, slice_index, IfOk, IfSome, IsSome};
+ghost use Rattle.frz_arena.specs.Codes.{is_failure};
+ghost use Rattle.frz_chain.specs.FileOn.{loaded_back};
+ghost use Rattle.frz_fide.specs.Legal.{is_legal};
+ghost use Rattle.frz_game.specs.Games.{graph_by};
+ghost use Rattle.frz_game.specs.Numbers.{position_at};
+ghost use Rattle.frz_reasons.specs.LocalEntries.{wrong_at};
+ghost use Rattle.frz_sets.specs.Sets.{size_of};
+ghost use Rattle.frz_sets.specs.Sound.{IsSound};
+ghost use Rattle.frz_store.specs.Told.{sink_of};
+ghost use Rattle.frz_answer.specs.Ends.{Said};
+ghost use Rattle.frz_answer.specs.Texts.{WroteText};
+ghost use Rattle.frz_commands_why.specs.Deciders.{decider_of};
+ghost use Rattle.frz_commands_why.specs.Telling.{EndsWhy, TellsBehind, TellsWhy, telling_steps};
+ghost use Rattle.frz_commands_why.specs.Texts as words;
+ghost use Rattle.frz_commands_why.specs.Texts.{LeavesLegally};
+
+use crate::decider::Deciding;
+use crate::texts::{write_exit, write_wrong_entry};
+use frz_answer::{End, Status, write_piece};
+use frz_arena::is_win;
+use frz_board::{Colour, Move};
+use frz_exits::ExitBook;
+use frz_fide::after;
+use frz_game::{Game, Wrong};
+use frz_graph::{Entries, Lists, local_at};
+use frz_index::Set;
+use frz_prelude::write_kept_line;
+use frz_reasons::laws::{failing_ways_are_games, one_failing_way};
+use frz_reasons::{Reason, write_denials, write_failing_way};
+use frz_sets::Value;
+use frz_steps::Steps;
+use frz_store::{Failed, Sink};
+use std::sync::ledger::Ledger;
+
+/// Writes the lines of the exit to which a legal move leads from the position of the number.
+fn write_left<O: Sink>(
+    set: &Set,
+    deciding: &Deciding<'_>,
+    number: u32,
+    mv: Move,
+    value: Value,
+    out: &mut O,
+) -> Result<(), Failed>
+    requires sound { IsSound deciding.now.rules.now }
+    requires legal { IfSome (position_at set.now number) (λ p. is_legal p mv ≡ true) }
+    ensures { WroteText (words.exit_text (decider_of deciding.now.numbers.now
+        deciding.now.rules.now (map loaded_back deciding.now.backs.now)) value
+        (words.position_after set.now number mv)) result
+        (sink_of O.Sink out.old) (sink_of O.Sink out.new) }
+{
+    match set.boards_at(number) {
+        None => Ok(()),
+        Some(p) => {
+            let q = after(&p, mv);
+            write_exit(value, q.as_position(), deciding.decider(&q), out)
+        }
+    }
+}
+
+/// Writes the lines of the end of a way, and answers the entry that is wrong, if that is the end.
+fn write_end<O: Sink>(
+    set: &Set,
+    deciding: &Deciding<'_>,
+    reason: Reason,
+    out: &mut O,
+) -> Result<Option<Wrong>, Failed>
+    requires sound { IsSound deciding.now.rules.now }
+    requires legal { LeavesLegally set.now reason }
+    ensures wrote { WroteText (words.end_text set.now (decider_of deciding.now.numbers.now
+        deciding.now.rules.now (map loaded_back deciding.now.backs.now)) reason) result
+        (sink_of O.Sink out.old) (sink_of O.Sink out.new) }
+    ensures answers { IfOk result (λ wrong. wrong ≡ words.wrong_in reason) }
+{
+    match reason {
+        Reason::Wrong(wrong) => return Ok(Some(wrong)),
+        Reason::Mated => write_piece(b"mate\n", out)?,
+        Reason::Renounced => write_piece(b"renounced\n", out)?,
+        Reason::Left(number, mv, value) => write_left(set, deciding, number, mv, value, out)?,
+    }
+    Ok(None)
+}
+
+/// The wrong entry of a number whose kept code this is. It takes one step at most.
+fn wrong_entry<B: ExitBook, E: Entries, L: Ledger>(
+    game: &Game<'_, B>,
+    entries: &E,
+    side: Colour,
+    number: u32,
+    kept: u32,
+    steps: &mut Steps<L>,
+) -> Wrong
+    requires inside { number < size_of game.now.rules.now.groups }
+    requires many { length (E.codes entries.now side) ≡ size_of game.now.rules.now.groups }
+    requires kept { kept ≡ slice_index (E.codes entries.now side) number }
+    requires few { size_of game.now.rules.now.groups ≤ 2 ^ 27 }
+    ensures wrong { result ≡ wrong_at (graph_by game.now.rules.now
+        (B.value_at game.now.book.now)) side (E.codes entries.now side) number }
+    ensures step { steps.new ≤ steps.old + 1 }
+    ensures later { steps.old ≤ steps.new }
+{
+    let mut lists = Lists::new();
+    let given = local_at(game, side, number, entries, &mut lists, steps);
+    Wrong {
+        side,
+        number,
+        kept,
+        given,
+    }
+}
+
+/// Tells the way on which the side fails from a number whose code is a failure, and its end.
+fn tell_failure<B: ExitBook, E: Entries, O: Sink, L: Ledger>(
+    game: &Game<'_, B>,
+    entries: &E,
+    deciding: &Deciding<'_>,
+    side: Colour,
+    number: u32,
+    out: &mut O,
+    steps: &mut Steps<L>,
+) -> Result<Option<Wrong>, Failed>
+    requires sound { IsSound deciding.now.rules.now }
+    requires inside { IsSome (position_at game.now.rules.now.groups number) }
+    requires below { number < size_of game.now.rules.now.groups }
+    requires many { length (E.codes entries.now side) ≡ size_of game.now.rules.now.groups }
+    requires few { size_of game.now.rules.now.groups ≤ 2 ^ 27 }
+    requires failing { is_failure (slice_index (E.codes entries.now side) number) ≡ true }
+    ensures told { TellsBehind game.now.rules.now (B.value_at game.now.book.now) side
+        (E.codes entries.now side) (decider_of deciding.now.numbers.now
+        deciding.now.rules.now (map loaded_back deciding.now.backs.now)) number result
+        (sink_of O.Sink out.old) (sink_of O.Sink out.new) }
+    ensures steps { steps.new ≤ steps.old + slice_index (E.codes entries.now side) number / 2 }
+    ensures later { steps.old ≤ steps.new }
+{
+    failing_ways_are_games();
+    let reason = write_failing_way(game, entries, side, number, out, steps)?;
+    write_end(game.set, deciding, reason, out)
+}
+
+/// Tells what stands behind the line of the bound, and answers the entry that is wrong, if one is
+/// met.
+fn tell_behind<B: ExitBook, E: Entries, O: Sink, L: Ledger>(
+    game: &Game<'_, B>,
+    entries: &E,
+    deciding: &Deciding<'_>,
+    side: Colour,
+    number: u32,
+    out: &mut O,
+    steps: &mut Steps<L>,
+) -> Result<Option<Wrong>, Failed>
+    requires sound { IsSound deciding.now.rules.now }
+    requires inside { IsSome (position_at game.now.rules.now.groups number) }
+    requires below { number < size_of game.now.rules.now.groups }
+    requires many { length (E.codes entries.now side) ≡ size_of game.now.rules.now.groups }
+    requires few { size_of game.now.rules.now.groups ≤ 2 ^ 27 }
+    ensures told { TellsBehind game.now.rules.now (B.value_at game.now.book.now) side
+        (E.codes entries.now side) (decider_of deciding.now.numbers.now
+        deciding.now.rules.now (map loaded_back deciding.now.backs.now)) number result
+        (sink_of O.Sink out.old) (sink_of O.Sink out.new) }
+    ensures steps { steps.new ≤ steps.old + telling_steps
+        (slice_index (E.codes entries.now side) number)
+        (length ((graph_by game.now.rules.now (B.value_at game.now.book.now)).arms number)) }
+    ensures later { steps.old ≤ steps.new }
+{
+    let code = entries.entry(side, number);
+    if is_win(code) {
+        return Ok(None);
+    }
+    if code == 1 {
+        return write_denials(game, entries, side, number, out, steps);
+    }
+    if code == 0 {
+        return Ok(Some(wrong_entry(game, entries, side, number, code, steps)));
+    }
+    tell_failure(game, entries, deciding, side, number, out, steps)
+}
+
+/// Writes the line of the bound and why it is no better one, and answers the status: `Wrong` where
+/// an entry is wrong, which the last line then names.
+fn tell_all<B: ExitBook, E: Entries, O: Sink, L: Ledger>(
+    game: &Game<'_, B>,
+    entries: &E,
+    deciding: &Deciding<'_>,
+    side: Colour,
+    number: u32,
+    out: &mut O,
+    steps: &mut Steps<L>,
+) -> Result<Status, Failed>
+    requires sound { IsSound deciding.now.rules.now }
+    requires inside { IsSome (position_at game.now.rules.now.groups number) }
+    requires below { number < size_of game.now.rules.now.groups }
+    requires many { length (E.codes entries.now side) ≡ size_of game.now.rules.now.groups }
+    requires few { size_of game.now.rules.now.groups ≤ 2 ^ 27 }
+    ensures told { TellsWhy game.now.rules.now (B.value_at game.now.book.now) side
+        (E.codes entries.now side) (decider_of deciding.now.numbers.now
+        deciding.now.rules.now (map loaded_back deciding.now.backs.now)) number result
+        (sink_of O.Sink out.old) (sink_of O.Sink out.new) }
+    ensures steps { steps.new ≤ steps.old + telling_steps
+        (slice_index (E.codes entries.now side) number)
+        (length ((graph_by game.now.rules.now (B.value_at game.now.book.now)).arms number)) }
+    ensures later { steps.old ≤ steps.new }
+{
+    one_failing_way();
+    write_kept_line(side, entries.entry(side, number), out)?;
+    let wrong = tell_behind(game, entries, deciding, side, number, out, steps)?;
+    write_wrong_entry(wrong, out)?;
+    match wrong {
+        None => Ok(Status::Success),
+        Some(_) => Ok(Status::Wrong),
+    }
+}
+
+/// Tells why the bound of the side at a position's number is no better one, and ends the command.
+pub fn tell_why<B: ExitBook, E: Entries, O: Sink, L: Ledger>(
+    game: &Game<'_, B>,
+    entries: &E,
+    deciding: &Deciding<'_>,
+    side: Colour,
+    number: u32,
+    out: &mut O,
+    steps: &mut Steps<L>,
+) -> End
+    requires sound { IsSound deciding.now.rules.now }
+    requires inside { IsSome (position_at game.now.rules.now.groups number) }
+    requires below { number < size_of game.now.rules.now.groups }
+    requires many { length (E.codes entries.now side) ≡ size_of game.now.rules.now.groups }
+    requires few { size_of game.now.rules.now.groups ≤ 2 ^ 27 }
+    ensures told { EndsWhy game.now.rules.now (B.value_at game.now.book.now) side
+        (E.codes entries.now side) (decider_of deciding.now.numbers.now
+        deciding.now.rules.now (map loaded_back deciding.now.backs.now)) number result
+        (sink_of O.Sink out.old) (sink_of O.Sink out.new) }
+    ensures steps { steps.new ≤ steps.old + telling_steps
+        (slice_index (E.codes entries.now side) number)
+        (length ((graph_by game.now.rules.now (B.value_at game.now.book.now)).arms number)) }
+    ensures later { steps.old ≤ steps.new }
+{
+    match tell_all(game, entries, deciding, side, number, out, steps) {
+        Ok(status) => End::Done(status),
+        Err(Failed) => End::SinkFault,
+    }
+}
