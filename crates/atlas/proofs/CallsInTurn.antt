@@ -32,7 +32,7 @@ use Rattle.frz_commands_atlas.specs.CheckMeans.{MeansCheck, TellsExactOver, chec
 use Rattle.atlas.specs.Calls.{check, query, Succeeds, TellsBoundsOver}
 use Rattle.atlas.specs.Commands.{job_of}
 use Rattle.frz_commands_atlas.proofs.Lemmas.{check_lawful}
-use Rattle.atlas.proofs.Queried.{query_lawful}
+use Rattle.atlas.proofs.QueriesOnce.{query_lawful}
 use Rattle.atlas.proofs.ExactTables.{exact_contents, exact_opens, exact_tables}
 
 -- the names that words give are those words

@@ -21,7 +21,7 @@ use Rattle.frz_graph.specs.Finite.{IsFinite}
 use Rattle.frz_worked.specs.declared.ten.Edge.{Edge}
 use Rattle.frz_worked.specs.declared.ten.TheConstants.{NODES, EDGES}
 use Rattle.frz_worked.specs.Ten.{target_of, step_of, is_free, arm_of, arm_from, pred_of, pred_to, preds_to, leads_to, game}
-use Rattle.frz_worked.proofs.Picked.{Apart, picked_from, picked_in, picked_more, one_place}
+use Rattle.frz_worked.proofs.FilterPicks.{Apart, picked_from, picked_in, picked_more, one_place}
 
 -- a number at which the game goes on, and one that is not broken
 is_going : Node → Bool

@@ -7,7 +7,7 @@ use Rattle.frz_answer.proofs.Lemmas.{quiet_store}
 use Rattle.frz_table.specs.Tables.{Table}
 use Rattle.frz_report.specs.declared.fault.Totals.{Totals}
 use Rattle.frz_commands_ask.specs.Reporting.{reporting_at}
-use Rattle.frz_commands_ask.proofs.Reported.{report_ends, stopped_so}
+use Rattle.frz_commands_ask.proofs.ReportEnds.{report_ends, stopped_so}
 use Rattle.frz_commands_ask.proofs.reporting.report_named.Goals as goal
 
 pub returns-in-Ok : goal.returns-in-Ok

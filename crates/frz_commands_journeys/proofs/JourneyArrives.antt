@@ -34,10 +34,10 @@ use Rattle.frz_commands_line.proofs.Lemmas.{by_member}
 use Rattle.frz_commands_journeys.specs.Endings.{EndsJourney, HasNearPlace, IsNear}
 use Rattle.frz_commands_journeys.specs.JourneyOf.{leaning}
 use Rattle.frz_commands_journeys.specs.Journeying.{input_with, journeying_at}
-use Rattle.frz_commands_journeys.proofs.Heard.{hears_what_it_took}
-use Rattle.frz_commands_journeys.proofs.Loaded.{told_by_files}
+use Rattle.frz_commands_journeys.proofs.InputHeard.{hears_what_it_took}
+use Rattle.frz_commands_journeys.proofs.TablesLoaded.{told_by_files}
 use Rattle.frz_commands_journeys.proofs.Near.{near_there}
-use Rattle.frz_commands_journeys.proofs.Played.{JourneyThere, journey_ran}
+use Rattle.frz_commands_journeys.proofs.JourneyEnds.{JourneyThere, journey_ran}
 
 -- as many tables as were held
 many_held : (tables : List TableBytes) → length (all_held tables) ≡ length (map link_of tables)

@@ -57,7 +57,7 @@ use Rattle.frz_commands_journeys.specs.Endings.{EndsJourney, answer_status, nami
 use Rattle.frz_commands_journeys.specs.JourneyOf.{IsJourneyBy, IsPlayed, IsPlayedAt, IsPlayedBy, IsPlayedOver, heard_by, journey_answer, leaning, played_text}
 use Rattle.frz_commands_journeys.specs.Journeying.{journeying_at, statuses_of, takes_input}
 use Rattle.frz_commands_journeys.proofs.Behind.{after_lines, once_is_not}
-use Rattle.frz_commands_journeys.proofs.Heard.{Hears, chosen, heard_whole, may_rest, may_whole, none_taken, split_there, untaken_is_free}
+use Rattle.frz_commands_journeys.proofs.InputHeard.{Hears, chosen, heard_whole, may_rest, may_whole, none_taken, split_there, untaken_is_free}
 use Rattle.frz_commands_journeys.proofs.Texts.{SomeArrival, arrival_of, fault_said, short_said, some_stages}
 
 -- that there is a journey

@@ -41,7 +41,7 @@ use Rattle.frz_journeys.specs.Playing.{turns_in}
 use Rattle.frz_commands_journeys.specs.Costs.{CostsAt, StepsBy, journey_costs}
 use Rattle.frz_commands_journeys.specs.JourneyOf.{IsJourneyBy, IsPlayedAt, IsPlayedBy, heard_by}
 use Rattle.frz_commands_journeys.specs.Journeying.{journeying_at, statuses_of}
-use Rattle.frz_commands_journeys.proofs.Played.{JourneyThere}
+use Rattle.frz_commands_journeys.proofs.JourneyEnds.{JourneyThere}
 use Rattle.frz_commands_journeys.proofs.Some.{some_at}
 
 own_missing : (o : Opponent) → OneOf statuses.Missing (statuses_of o)
