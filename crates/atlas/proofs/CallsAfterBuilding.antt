@@ -143,8 +143,8 @@ module _ (rules table : List ℕ) (behind : List (List ℕ)) (files : Files) (a 
   bytes_after : HoldsBytes a.files
   bytes_after =
       let text_are : AreBytes makes_built_atlas.text =
-      subst (λ (o : Option (List ℕ)). IfSome o AreBytes) makes_built_atlas.there (built.bytes rules)
-      in
+      subst (λ (o : Option (List ℕ)). IfSome o AreBytes) makes_built_atlas.there
+      (built.bytes rules) in
       let file = makes_built_atlas.one_file in
       let file_are : AreBytes makes_built_atlas.bytes = subst AreBytes (sym file.whole)
       (file_bytes (magic_of Atlas) makes_built_atlas.text (size_of makes_built_atlas.lines.groups)

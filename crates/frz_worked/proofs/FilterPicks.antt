@@ -28,8 +28,8 @@ module _ {X Y : Type 0} (f : X → Option Y) where
           | inr i ↦ let r = picked_from xs y i in
               (r.0, Contains-append_right (x ∷ []) xs r.0 r.1, r.2)
         ]
-    | inl n ↦ let r = picked_from xs y (subst (λ ys. Contains ys y) (unpicked_is_dropped x xs n) h)
-        in
+    | inl n ↦ let r = picked_from xs y
+            (subst (λ ys. Contains ys y) (unpicked_is_dropped x xs n) h) in
         (r.0, Contains-append_right (x ∷ []) xs r.0 r.1, r.2)
   ]
 

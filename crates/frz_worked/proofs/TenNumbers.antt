@@ -144,8 +144,8 @@ preds_are q i m = (
       let s : step_of r.0.next ≡ h.0.mv = ap (λ (a : Arm). a.mv) r.3 in
       let p : pred_of r.0 ≡ record { number = i; mv = m } = cc (r.2, s, h.2) in
       picked_in (pred_to q) EDGES r.0 (record { number = i; mv = m }) r.1
-      (passing_is_kept (leads_to q r.0.next) (pred_of r.0) (leads_at q r.0.next (n ∙ h.3)) ∙ ap Some
-      p),
+      (passing_is_kept (leads_to q r.0.next) (pred_of r.0) (leads_at q r.0.next (n ∙ h.3))
+      ∙ ap Some p),
 )
 
 pub preds_once : (q : ℕ) → HaveDifferentNumbers (preds_to q)
