@@ -11,7 +11,7 @@ use Rattle.atlas.specs.declared.verb.Verb.{Verb}
 use Rattle.atlas.specs.declared.verb.Verb.TheVariants.{Build, Check, Query, Each, Line, Play, Why, Premises, Report, Size}
 use Rattle.atlas.specs.Verbs.{command_of}
 use Rattle.atlas.specs.Commands.{job_by, job_of}
-use Rattle.atlas.proofs.Queried.{query_lawful}
+use Rattle.atlas.proofs.QueriesOnce.{query_lawful}
 
 -- the laws of other crates that this one rests on
 module _ (line_lawful : (words : List (List ℕ)) → IsLawful (line_words words))

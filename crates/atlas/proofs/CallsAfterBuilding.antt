@@ -24,7 +24,7 @@ use Rattle.frz_commands_atlas.specs.CheckMeans.{HoldsAtlas, MeansCheck, checking
 use Rattle.atlas.specs.Calls.{build, check, query, Succeeds, TellsBoundsOver}
 use Rattle.atlas.specs.Commands.{job_of}
 use Rattle.frz_commands_atlas.proofs.Lemmas.{build_lawful, check_lawful}
-use Rattle.atlas.proofs.CallsInTurn.{headline, of_names, of_words, queried, these_names}
+use Rattle.atlas.proofs.CallsInTurn.{check_headline, of_names, of_words, query_tells_bounds, these_names}
 
 first_false : (b c : Bool) → (b || c) ≡ false → b ≡ false
 first_false true c e = cc
@@ -84,10 +84,10 @@ module _ (rules table : List ℕ) (behind : List (List ℕ)) (files : Files) (a 
   names = table ∷ behind
 
   -- no two of the words are the same, and the call makes the table
-  made : (has_twice (rules ∷ names) ≡ false)
+  built_atlas_made : (has_twice (rules ∷ names) ≡ false)
       × (table_names_of names ≡ Some (table, behind))
       × MakesAtlas rules table behind files a
-  made =
+  built_atlas_made =
       let words : List (List ℕ) = rules ∷ names in
       let job : List ℕ × (List ℕ × List (List ℕ)) → Job = λ n. unless (has_twice words)
       (building_at n.0 n.1.0 n.1.1) in
@@ -108,45 +108,50 @@ module _ (rules table : List ℕ) (behind : List (List ℕ)) (files : Files) (a 
             rest.0 makes,
       )
 
-  makes : MakesAtlas rules table behind files a
-  makes = made.2
+  makes_built_atlas : MakesAtlas rules table behind files a
+  makes_built_atlas = built_atlas_made.2
 
   no_two : has_twice names ≡ false
-  no_two = second_false (list_any (λ other. bytes_eq other rules) names) (has_twice names) made.0
+  no_two = second_false (list_any (λ other. bytes_eq other rules) names) (has_twice names)
+      built_atlas_made.0
 
-  after : a.files ≡ put files table makes.bytes
-  after = ap (λ (x : Answer). x.files) makes.told
+  files_after_build : a.files ≡ put files table makes_built_atlas.bytes
+  files_after_build = ap (λ (x : Answer). x.files) makes_built_atlas.told
 
   -- the table lies over the same tables
   holds_after : HoldsAtlas table behind a.files
   holds_after =
       let same : map a.files behind ≡ map files behind =
-      ap (λ (f : Files). map f behind) after
-      ∙ kept_all files table makes.bytes behind
+      ap (λ (f : Files). map f behind) files_after_build
+      ∙ kept_all files table makes_built_atlas.bytes behind
       (first_false (list_any (λ other. bytes_eq other table) behind) (has_twice behind) no_two) in
       record {
-        tables = makes.tables;
+        tables = makes_built_atlas.tables;
         behind_it = record {
-          there = same ∙ makes.behind_it.there;
-          exact = makes.behind_it.exact;
+          there = same ∙ makes_built_atlas.behind_it.there;
+          exact = makes_built_atlas.behind_it.exact;
         };
-        bytes = makes.bytes;
-        there = ap (λ (f : Files). f table) after ∙ put-same files table makes.bytes;
-        text = makes.text;
-        rules = makes.lines;
-        accepted = makes.accepted;
-        one_file = makes.one_file;
+        bytes = makes_built_atlas.bytes;
+        there = ap (λ (f : Files). f table) files_after_build ∙ put-same files table
+            makes_built_atlas.bytes;
+        text = makes_built_atlas.text;
+        rules = makes_built_atlas.lines;
+        accepted = makes_built_atlas.accepted;
+        one_file = makes_built_atlas.one_file;
       }
 
   bytes_after : HoldsBytes a.files
   bytes_after =
-      let text_are : AreBytes makes.text =
-      subst (λ (o : Option (List ℕ)). IfSome o AreBytes) makes.there (built.bytes rules) in
-      let file = makes.one_file in
-      let file_are : AreBytes makes.bytes = subst AreBytes (sym file.whole)
-      (file_bytes (magic_of Atlas) makes.text (size_of makes.lines.groups) file.white file.black
+      let text_are : AreBytes makes_built_atlas.text =
+      subst (λ (o : Option (List ℕ)). IfSome o AreBytes) makes_built_atlas.there
+      (built.bytes rules) in
+      let file = makes_built_atlas.one_file in
+      let file_are : AreBytes makes_built_atlas.bytes = subst AreBytes (sym file.whole)
+      (file_bytes (magic_of Atlas) makes_built_atlas.text (size_of makes_built_atlas.lines.groups)
+      file.white file.black
       (magic_bytes Atlas) text_are) in
-      subst HoldsBytes (sym after) (put_bytes files table makes.bytes built.bytes file_are)
+      subst HoldsBytes (sym files_after_build)
+      (put_bytes files table makes_built_atlas.bytes built.bytes file_are)
 
   pub checked_after : (input : List ℕ) (b : Answer)
       → (job_of (check table behind)).answers a.files input b → b.status ≡ Success
@@ -156,7 +161,8 @@ module _ (rules table : List ℕ) (behind : List (List ℕ)) (files : Files) (a 
       let meant : (taking job (table_names_of names)).means a.files input b =
       (check_lawful (table ∷ behind)).means a.files input b bytes_after answer in
       let of_some : (unless (has_twice names) (checking_at table behind)).means a.files input b =
-      subst (λ (o : Option (List ℕ × List (List ℕ))). (taking job o).means a.files input b) made.1
+      subst (λ (o : Option (List ℕ × List (List ℕ))). (taking job o).means a.files input b)
+      built_atlas_made.1
       meant in
       let means : MeansCheck table behind a.files b =
       subst (λ (t : Bool). (unless t (checking_at table behind)).means a.files input b) no_two
@@ -167,10 +173,10 @@ module _ (rules table : List ℕ) (behind : List (List ℕ)) (files : Files) (a 
       → Succeeds (query table fen) a.files b → TellsBoundsOver table behind fen a.files b.text
   queried_after fen b h =
       let one = (check_lawful (table ∷ behind)).one a.files [] in
-      let exact = headline table behind a.files one.0 (record {
+      let exact = check_headline table behind a.files one.0 (record {
         bytes = h.bytes;
         input = [];
         answer = one.1;
         done = checked_after [] one.0 one.1;
       }) in
-      queried table behind a.files h.bytes exact fen b h
+      query_tells_bounds table behind a.files h.bytes exact fen b h

@@ -32,7 +32,7 @@ use Rattle.frz_commands_atlas.specs.CheckMeans.{MeansCheck, TellsExactOver, chec
 use Rattle.atlas.specs.Calls.{check, query, Succeeds, TellsBoundsOver}
 use Rattle.atlas.specs.Commands.{job_of}
 use Rattle.frz_commands_atlas.proofs.Lemmas.{check_lawful}
-use Rattle.atlas.proofs.Queried.{query_lawful}
+use Rattle.atlas.proofs.QueriesOnce.{query_lawful}
 use Rattle.atlas.proofs.ExactTables.{exact_contents, exact_opens, exact_tables}
 
 -- the names that words give are those words
@@ -84,9 +84,9 @@ module _ (files : Files) (input : List ℕ) (a : Answer) where
         (λ e. cc) job x answer means (λ p is meant e. (p, is, meant)) done
 
 -- what `check` with status 0 means
-pub headline : (table : List ℕ) (behind : List (List ℕ)) (files : Files) (a : Answer)
+pub check_headline : (table : List ℕ) (behind : List (List ℕ)) (files : Files) (a : Answer)
     → Succeeds (check table behind) files a → AtlasHeadline table behind files
-headline table behind files a h =
+check_headline table behind files a h =
     let words : List (List ℕ) = table ∷ behind in
     let job : List ℕ × List (List ℕ) → Job = λ names. unless (has_twice words)
     (checking_at names.0 names.1) in
@@ -104,9 +104,9 @@ headline table behind files a h =
 -- over exact tables
 module _ (table : List ℕ) (behind : List (List ℕ)) (files : Files) (are : HoldsBytes files)
     (exact : AtlasHeadline table behind files) (fen : List ℕ) (b : Answer) where
-  pub queried : Succeeds (query table fen) files b
+  pub query_tells_bounds : Succeeds (query table fen) files b
       → TellsBoundsOver table behind fen files b.text
-  queried h =
+  query_tells_bounds h =
       let at = at_position files h.input b h.done (querying_at Atlas table) (fen_of fen) h.answer
       ((query_lawful (table ∷ fen ∷ [])).means files h.input b h.bytes h.answer) in
       let means : MeansQuery Atlas table at.0 files b = at.2 in

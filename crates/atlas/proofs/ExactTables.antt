@@ -17,8 +17,9 @@ module _ (table : List ℕ) (behind : List (List ℕ)) (files : Files)
   abbrev own : Contents
   own = record { text = exact.text; rules = exact.rules }
 
-  tables : KeepsTables (atlas_value exact.rules (backs_of exact.links)) own exact.bytes
-  tables = both_tables (atlas_value exact.rules (backs_of exact.links)) own exact.bytes exact.white
+  keeps_atlas_tables : KeepsTables (atlas_value exact.rules (backs_of exact.links)) own exact.bytes
+  keeps_atlas_tables = both_tables (atlas_value exact.rules (backs_of exact.links)) own exact.bytes
+      exact.white
       exact.black exact.white_is exact.black_is exact.white_table exact.black_table
 
   is_opened : IsOpened (table_format Atlas) exact.bytes own
@@ -49,4 +50,4 @@ module _ (table : List ℕ) (behind : List (List ℕ)) (files : Files)
         subst (λ (c : Contents). KeepsTables (atlas_value c.rules (backs_of exact.links)) c bytes)
         exact_contents
         (subst (λ (l : List ℕ). KeepsTables (atlas_value exact.rules (backs_of exact.links)) own l)
-        same_bytes tables)
+        same_bytes keeps_atlas_tables)

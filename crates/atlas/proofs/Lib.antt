@@ -1,4 +1,4 @@
-pub mod Queried
+pub mod QueriesOnce
 pub mod Answering
 pub mod Calling
 mod ExactTables

@@ -20,7 +20,7 @@ use Rattle.frz_commands_table.specs.CheckMeans.{checking_at}
 use Rattle.frz_commands_table.proofs.Lemmas.{built_opens, headline_contents}
 use Rattle.freezer.specs.Commands.{job_of}
 use Rattle.freezer.specs.Calls.{build, chain, chaincheck, chainquery, check, query, Succeeds, TellsChainedBounds, TellsSolvedBounds, TellsTrueBounds}
-use Rattle.freezer.proofs.CallsInTurn.{chain_headline, chain_queried, headline, of_names, queried}
+use Rattle.freezer.proofs.CallsInTurn.{chain_headline, chain_queried, check_headline, of_names, queried}
 
 module _ (lawful : (later : ℕ → Files) (words : List (List ℕ))
     → IsLawful (job_of later words)) where
@@ -51,7 +51,7 @@ module _ (lawful : (later : ℕ → Files) (words : List (List ℕ))
         → Succeeds later (query table fen) a.files b → TellsTrueBounds table fen a.files b.text
     queried_after later fen b h =
         let one = (lawful later (check table)).one a.files [] in
-        let exact = headline lawful later table a.files one.0 (record {
+        let exact = check_headline lawful later table a.files one.0 (record {
           bytes = h.bytes;
           input = [];
           answer = one.1;

@@ -111,9 +111,9 @@ Zugzwangs side at P = (rules : RuleLines) (value : Board → Value) → AreTrueE
 -- what each call means
 module _ (lawful : (later : ℕ → Files) (words : List (List ℕ))
     → IsLawful (job_of later words)) where
-  pub headline : (later : ℕ → Files) (table : List ℕ) (files : Files) (a : Answer)
+  pub check_headline : (later : ℕ → Files) (table : List ℕ) (files : Files) (a : Answer)
       → Succeeds later (check table) files a → Headline table files
-  headline later table files a h =
+  check_headline later table files a h =
       let means : MeansCheck table files a = (lawful later (check table)).means files h.input a
       h.bytes h.answer in
       let tells : TellsExact table files a.text =

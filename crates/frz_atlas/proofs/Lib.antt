@@ -1,14 +1,14 @@
 pub mod Lemmas
 mod OwnKinds
 mod Causes
-mod Moved
-mod Opened
+mod VerdictsByValues
+mod TableFound
 mod Behind
 mod Names
 mod ExactTables
 mod StillHeld
 mod AtlasBuilt
 mod AtlasChecked
-mod Loaded
+mod TableLoaded
 mod LoadedAll
 mod AtlasLoaded

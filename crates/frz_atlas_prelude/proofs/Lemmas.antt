@@ -1,5 +1,5 @@
 -- The lemmas that the crates above cite.
-pub use Rattle.frz_atlas_prelude.proofs.Ended.{AnswersAt, MayEndAt, ended_at}
+pub use Rattle.frz_atlas_prelude.proofs.FaultEnds.{AnswersAt, MayEndAt, ended_at}
 pub use Rattle.frz_atlas_prelude.proofs.HeldNames.{
   HoldingAll,
   as_many,
@@ -16,7 +16,7 @@ pub use Rattle.frz_atlas_prelude.proofs.HeldNames.{
   without_second,
 }
 pub use Rattle.frz_atlas_prelude.proofs.HeldTable.{Holds, holds}
-pub use Rattle.frz_atlas_prelude.proofs.Refused.{back_said, not_both}
+pub use Rattle.frz_atlas_prelude.proofs.BackRefused.{back_said, not_both}
 pub use Rattle.frz_atlas_prelude.proofs.SmallPlaces.{place_refused, small_refused, small_unopened, small_unread}
 pub use Rattle.frz_atlas_prelude.proofs.TablesOnce.{
   AllFound,
@@ -28,4 +28,4 @@ pub use Rattle.frz_atlas_prelude.proofs.TablesOnce.{
   one_tables,
   with_table,
 }
-pub use Rattle.frz_atlas_prelude.proofs.Taken.{as_all_named, as_file_named, as_named, ran_named, ran_refused}
+pub use Rattle.frz_atlas_prelude.proofs.NamesTaken.{as_all_named, as_file_named, as_named, ran_named, ran_refused}

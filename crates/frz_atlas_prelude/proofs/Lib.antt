@@ -1,8 +1,8 @@
 pub mod Lemmas
-mod Refused
+mod BackRefused
 mod TablesOnce
 mod HeldNames
 mod HeldTable
 mod SmallPlaces
-mod Ended
-mod Taken
+mod FaultEnds
+mod NamesTaken

@@ -1,5 +1,5 @@
 -- The lemmas that the crates above cite.
 pub use Rattle.frz_commands_ask.proofs.SolvedOnce.{solve_lawful}
 pub use Rattle.frz_commands_ask.proofs.QueryMeans.{query_means}
-pub use Rattle.frz_commands_ask.proofs.Queried.{chainquery_lawful, query_lawful}
-pub use Rattle.frz_commands_ask.proofs.Reported.{report_lawful}
+pub use Rattle.frz_commands_ask.proofs.QueryEnds.{chainquery_lawful, query_lawful}
+pub use Rattle.frz_commands_ask.proofs.ReportEnds.{report_lawful}

@@ -1,11 +1,11 @@
-mod Solved
+mod SolveStages
 mod SolvedOnce
 mod Entries
 mod Meaning
-mod Asked
+mod SolveEnds
 mod KeptFiles
 mod QueryMeans
-mod Queried
+mod QueryEnds
 pub mod Lemmas
-mod Reported
+mod ReportEnds
 mod ReportMeans

@@ -27,7 +27,7 @@ use Rattle.frz_prelude.proofs.Lemmas.{fen_lawful}
 use Rattle.frz_commands_ask.specs.Solving.{AreBounds, IsSolvedBy, IsSolvedIn, IsSolvedAt}
 use Rattle.frz_commands_ask.specs.Meaning.{solving_at, solve_words}
 use Rattle.frz_commands_ask.proofs.Meaning.{solve_means}
-use Rattle.frz_commands_ask.proofs.Solved.{some_solved_at}
+use Rattle.frz_commands_ask.proofs.SolveStages.{some_solved_at}
 
 -- the bounds of both sides are one
 one_bounds : (r : RuleLines) (p : Board) (m : Files) (a b : Answer) → AreBounds r p m a

@@ -31,7 +31,7 @@ pub fn query_kind<S: Store>(
     Ok(Reply::Kept(codes.white, codes.black))
 }
 
-/// The command `query`, on a plain table; `words` are the two words behind its name, TABLE FEN.
+/// The command `query TABLE FEN`, on a plain table; `words` are TABLE and FEN.
 pub fn query<S: Store>(alloc: Global, words: &[String], store: &mut S) -> Result<Reply, Stop>
     ensures replies { (steps : ℕ) → Replies (query_words (map string_bytes words.now)) result
         (store_of S.Store store.old) (store_of S.Store store.new) steps steps }
@@ -41,8 +41,8 @@ pub fn query<S: Store>(alloc: Global, words: &[String], store: &mut S) -> Result
     query_kind(alloc, FileKind::Plain, words, store)
 }
 
-/// The command `chainquery`, on a table over a back table; `words` are the two words behind its
-/// name, TABLE FEN. The back table is not read.
+/// The command `chainquery TABLE FEN`, on a table over a back table; `words` are TABLE and FEN. The
+/// back table is not read.
 pub fn chainquery<S: Store>(alloc: Global, words: &[String], store: &mut S) -> Result<Reply, Stop>
     ensures replies { (steps : ℕ) → Replies (chainquery_words (map string_bytes words.now)) result
         (store_of S.Store store.old) (store_of S.Store store.new) steps steps }

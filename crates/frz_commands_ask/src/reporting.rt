@@ -34,7 +34,7 @@ fn report_named<S: Store, O: Sink, L: Ledger>(
     }
 }
 
-/// Runs the command `report`; `words` is the one word behind its name, TABLE.
+/// Runs the command `report TABLE`; `words` is TABLE.
 pub fn run_report<S: Store, O: Sink, L: Ledger>(
     alloc: Global,
     words: &[String],

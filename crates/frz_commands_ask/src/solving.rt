@@ -12,8 +12,7 @@ use frz_store::Store;
 use std::alloc::Global;
 use std::sync::ledger::Ledger;
 
-/// The command `solve`; `words` are the two words behind its name, RULES FEN. The FEN is read
-/// before the rules file.
+/// The command `solve RULES FEN`; `words` are RULES and FEN. The FEN is read before the rules file.
 pub fn solve<S: Store, L: Ledger>(
     alloc: Global,
     words: &[String],

@@ -2,4 +2,4 @@
 pub use Rattle.frz_commands_atlas.proofs.EachOnce.{each_lawful}
 pub use Rattle.frz_commands_atlas.proofs.Lawful.{build_lawful, check_lawful}
 pub use Rattle.frz_commands_atlas.proofs.ReportMeaning.{report_lawful}
-pub use Rattle.frz_commands_atlas.proofs.Sized.{size_lawful}
+pub use Rattle.frz_commands_atlas.proofs.SizeEnds.{size_lawful}

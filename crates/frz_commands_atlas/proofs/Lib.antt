@@ -1,15 +1,15 @@
 pub mod Lemmas
 mod Choices
 mod GroupLines
-mod Sized
+mod SizeEnds
 mod CheckOnce
 mod CheckMeaning
 mod BuildOnce
 mod Lawful
-mod Checked
-mod Built
+mod CheckEnds
+mod BuildEnds
 mod ReportMeaning
-mod Reported
+mod ReportEnds
 mod OneOrder
 mod MovesBehind
 mod ReadFile

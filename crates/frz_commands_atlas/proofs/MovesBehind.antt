@@ -40,27 +40,28 @@ use Rattle.frz_commands_atlas.specs.RowLines.{both_words, side_words}
 
 -- a move that stays in the set leads to the number of the position after it
 module _ (rules : RuleLines) (q : Board) (v : Value) (n : ℕ) where
-  leads : (b : Bool) → is_member rules.groups q ≡ b
+  leads_to_member : (b : Bool) → is_member rules.groups q ≡ b
       → named_next (name_in (numbers_by rules.groups)) (next_by b q v) ≡ Inside n
       → Member rules.groups q × (n ≡ Num rules.groups q)
-  leads true same e =
+  leads_to_member true same e =
       let named : name_in (numbers_by rules.groups) q ≡ n = cc in (
         member_of rules.groups q same,
         sym named ∙ ap (name_by (size_of rules.groups)) (number_there rules.groups q same),
       )
-  leads false same e = absurd (cc)
+  leads_to_member false same e = absurd (cc)
 
 stays_at : (rules : RuleLines) (value : Board → Value) (p : Board) (m : Step) (n : ℕ)
     → (arm_at rules value p m).next ≡ Inside n
     → Member rules.groups (after p m) × (n ≡ Num rules.groups (after p m))
 unfolding arm_at
 stays_at rules value p m n e =
-    leads rules (after p m) (value (after p m)) n (is_member rules.groups (after p m)) refl e
+    leads_to_member rules (after p m) (value (after p m)) n (is_member rules.groups (after p m))
+    refl e
 
-moved : (rules : RuleLines) (value : Board → Value) (p : Board) (m : Step)
+arm_has_move : (rules : RuleLines) (value : Board → Value) (p : Board) (m : Step)
     → (arm_at rules value p m).mv ≡ m
 unfolding arm_at
-moved rules value p m = refl
+arm_has_move rules value p m = refl
 
 -- what holds of each legal move holds of the rows in any order
 in_order : (P : Row → Type 0) (rules : RuleLines) (p : Board) (white black : List ℕ)
@@ -82,7 +83,8 @@ pub legal_rows : (rules : RuleLines) (p : Board) (white black : List ℕ) (rank 
     → All (λ (row : Row). is_legal p row.arm.mv ≡ true) rows
 legal_rows rules p white black rank rows ranked =
     in_order (λ (row : Row). is_legal p row.arm.mv ≡ true) rules p white black rank rows
-    (λ m listed. ap (is_legal p) (moved rules (value_by rules) p m) ∙ (only_legal p m listed).1)
+    (λ m listed. ap (is_legal p) (arm_has_move rules (value_by rules) p m)
+    ∙ (only_legal p m listed).1)
     ranked
 
 -- and there are as many

@@ -18,14 +18,16 @@ module _ {X : Type 0} (rank : X → ℕ) where
   one_rank : (x y : X) → same_rank x y ≡ true → rank x ≡ rank y
   one_rank x y = (ties_at (rank x) (rank y)).0
 
-  tied : (x y : X) → rank x ≡ rank y → same_rank x y ≡ true
-  tied x y = (ties_at (rank x) (rank y)).1
+  equal_ranks_tie : (x y : X) → rank x ≡ rank y → same_rank x y ≡ true
+  equal_ranks_tie x y = (ties_at (rank x) (rank y)).1
 
-  kept : (p : X → Bool) (y : X) (ys : List X) → p y ≡ true → filter p (y ∷ ys) ≡ y ∷ filter p ys
-  kept p y ys h = cond-true _ _ _ h
+  passing_is_kept : (p : X → Bool) (y : X) (ys : List X) → p y ≡ true
+      → filter p (y ∷ ys) ≡ y ∷ filter p ys
+  passing_is_kept p y ys h = cond-true _ _ _ h
 
-  dropped : (p : X → Bool) (y : X) (ys : List X) → p y ≡ false → filter p (y ∷ ys) ≡ filter p ys
-  dropped p y ys h = cond-false _ _ _ h
+  failing_is_dropped : (p : X → Bool) (y : X) (ys : List X) → p y ≡ false
+      → filter p (y ∷ ys) ≡ filter p ys
+  failing_is_dropped p y ys h = cond-false _ _ _ h
 
   -- each rank is at least n
   abbrev AreAtLeast : ℕ → List X → Type 0
@@ -52,28 +54,31 @@ module _ {X : Type 0} (rank : X → ℕ) where
   at_least n (y ∷ ys) d zero h lt = h.0
   at_least n (y ∷ ys) d (suc j) h lt = at_least n ys d j h.1 (omega arith)
 
-  rises : (ys : List X) → IsNonDecreasingBy rank ys → Rises ys
-  rises [] h = tt
-  rises (y ∷ ys) h = (
+  non_decreasing_rises : (ys : List X) → IsNonDecreasingBy rank ys → Rises ys
+  non_decreasing_rises [] h = tt
+  non_decreasing_rises (y ∷ ys) h = (
     all_at_least (rank y) ys y (λ j lt. h zero (suc j) y zero-le (suc-le-suc lt)),
-    rises ys (λ i j d le lt. h (suc i) (suc j) d (suc-le-suc le) (suc-le-suc lt)),
+    non_decreasing_rises ys (λ i j d le lt. h (suc i) (suc j) d (suc-le-suc le) (suc-le-suc lt)),
   )
 
-  rising : (ys : List X) → Rises ys → IsNonDecreasingBy rank ys
-  rising [] h i j d le lt = absurd (omega arith)
-  rising (y ∷ ys) h zero zero d le lt = omega arith
-  rising (y ∷ ys) h zero (suc j) d le lt = at_least (rank y) ys d j h.0 (omega arith)
-  rising (y ∷ ys) h (suc i) zero d le lt = absurd (omega arith)
-  rising (y ∷ ys) h (suc i) (suc j) d le lt = rising ys h.1 i j d (omega arith) (omega arith)
+  rising_is_non_decreasing : (ys : List X) → Rises ys → IsNonDecreasingBy rank ys
+  rising_is_non_decreasing [] h i j d le lt = absurd (omega arith)
+  rising_is_non_decreasing (y ∷ ys) h zero zero d le lt = omega arith
+  rising_is_non_decreasing (y ∷ ys) h zero (suc j) d le lt = at_least (rank y) ys d j h.0
+      (omega arith)
+  rising_is_non_decreasing (y ∷ ys) h (suc i) zero d le lt = absurd (omega arith)
+  rising_is_non_decreasing (y ∷ ys) h (suc i) (suc j) d le lt = rising_is_non_decreasing ys h.1 i j
+      d (omega arith) (omega arith)
 
   -- the rank of x occurs among them
-  found : (n : ℕ) (x : X) (ys : List X) (w : X) (ws : List X) → AreAtLeast n ys
+  rank_found_at_least : (n : ℕ) (x : X) (ys : List X) (w : X) (ws : List X) → AreAtLeast n ys
       → filter (same_rank x) ys ≡ w ∷ ws → n ≤ rank x
-  found n x [] w ws h e = cc
-  found n x (y ∷ ys) w ws h e =
+  rank_found_at_least n x [] w ws h e = cc
+  rank_found_at_least n x (y ∷ ys) w ws h e =
       elim (cases_Bool (same_rank x y)) [
         | inl with ↦ omega (arith, h.0, one_rank x y with)
-        | inr without ↦ found n x ys w ws h.1 (sym (dropped (same_rank x) y ys without) ∙ e)
+        | inr without ↦ rank_found_at_least n x ys w ws h.1
+            (sym (failing_is_dropped (same_rank x) y ys without) ∙ e)
       ]
 
   -- two rising lists that hold the same elements of each rank, in the same order, are one
@@ -81,30 +86,33 @@ module _ {X : Type 0} (rank : X → ℕ) where
       → ((x : X) → filter (same_rank x) ys ≡ filter (same_rank x) zs) → ys ≡ zs
   one_rising [] [] left right same = refl
   one_rising [] (z ∷ zs) left right same =
-      let clash = same z ∙ kept (same_rank z) z zs (tied z z refl) in cc
+      let clash = same z ∙ passing_is_kept (same_rank z) z zs (equal_ranks_tie z z refl) in cc
   one_rising (y ∷ ys) [] left right same =
-      let clash = sym (same y) ∙ kept (same_rank y) y ys (tied y y refl) in cc
+      let clash = sym (same y) ∙ passing_is_kept (same_rank y) y ys (equal_ranks_tie y y refl) in cc
   one_rising (y ∷ ys) (z ∷ zs) left right same =
-      let at_y = kept (same_rank y) y ys (tied y y refl) in
-      let at_z = kept (same_rank z) z zs (tied z z refl) in
-      let up = found (rank z) y (z ∷ zs) y _ (omega arith, right.0) (sym (same y) ∙ at_y) in
-      let down = found (rank y) z (y ∷ ys) z _ (omega arith, left.0) (same z ∙ at_z) in
-      let heads = sym at_y ∙ same y ∙ kept (same_rank y) z zs (tied y z (omega arith)) in
+      let at_y = passing_is_kept (same_rank y) y ys (equal_ranks_tie y y refl) in
+      let at_z = passing_is_kept (same_rank z) z zs (equal_ranks_tie z z refl) in
+      let up = rank_found_at_least (rank z) y (z ∷ zs) y _ (omega arith, right.0)
+          (sym (same y) ∙ at_y) in
+      let down = rank_found_at_least (rank y) z (y ∷ ys) z _ (omega arith, left.0)
+          (same z ∙ at_z) in
+      let heads = sym at_y ∙ same y ∙ passing_is_kept (same_rank y) z zs
+          (equal_ranks_tie y z (omega arith)) in
       let head : y ≡ z = cc in
       let tails : (x : X) → filter (same_rank x) ys ≡ filter (same_rank x) zs = λ x.
       elim (cases_Bool (same_rank x y)) [
         | inl with ↦
-            let both = sym (kept (same_rank x) y ys with) ∙ same x
-            ∙ kept (same_rank x) z zs (ap (same_rank x) (sym head) ∙ with) in cc
+            let both = sym (passing_is_kept (same_rank x) y ys with) ∙ same x
+            ∙ passing_is_kept (same_rank x) z zs (ap (same_rank x) (sym head) ∙ with) in cc
         | inr without ↦
-            sym (dropped (same_rank x) y ys without) ∙ same x
-            ∙ dropped (same_rank x) z zs (ap (same_rank x) (sym head) ∙ without)
+            sym (failing_is_dropped (same_rank x) y ys without) ∙ same x
+            ∙ failing_is_dropped (same_rank x) z zs (ap (same_rank x) (sym head) ∙ without)
       ] in
       ap (λ (x : X). x ∷ ys) head ∙ ap (λ (l : List X). z ∷ l) (one_rising ys zs left.1 right.1 tails)
 
   pub one_order : (xs ys zs : List X) → IsRanked rank xs ys → IsRanked rank xs zs → ys ≡ zs
   one_order xs ys zs h k =
-      one_rising ys zs (rises ys h.rising) (rises zs k.rising)
+      one_rising ys zs (non_decreasing_rises ys h.rising) (non_decreasing_rises zs k.rising)
       (λ x. h.level x ∙ sym (k.level x))
 
   -- x before the first that does not rank below it
@@ -116,13 +124,13 @@ module _ {X : Type 0} (rank : X → ℕ) where
   in_order [] = []
   in_order (x ∷ xs) = put_in x (in_order xs)
 
-  past : (x y : X) (ys : List X) → ltb (rank y) (rank x) ≡ true
+  put_behind_lower : (x y : X) (ys : List X) → ltb (rank y) (rank x) ≡ true
       → put_in x (y ∷ ys) ≡ y ∷ put_in x ys
-  past x y ys h = cond-true _ _ _ h
+  put_behind_lower x y ys h = cond-true _ _ _ h
 
-  stays : (x y : X) (ys : List X) → ltb (rank y) (rank x) ≡ false
+  put_before_others : (x y : X) (ys : List X) → ltb (rank y) (rank x) ≡ false
       → put_in x (y ∷ ys) ≡ x ∷ y ∷ ys
-  stays x y ys h = cond-false _ _ _ h
+  put_before_others x y ys h = cond-false _ _ _ h
 
   put_level : (x c : X) (ds : List X)
       → filter (same_rank x) (put_in c ds) ≡ filter (same_rank x) (c ∷ ds)
@@ -130,13 +138,14 @@ module _ {X : Type 0} (rank : X → ℕ) where
   put_level x c (d ∷ ds) =
       let p = same_rank x in
       elim (cases_Bool (ltb (rank d) (rank c))) [
-        | inr stay ↦ ap (filter p) (stays c d ds stay)
+        | inr stay ↦ ap (filter p) (put_before_others c d ds stay)
         | inl pass ↦
-            ap (filter p) (past c d ds pass)
+            ap (filter p) (put_behind_lower c d ds pass)
             ∙ elim (cases_Bool (p d)) [
               | inr without ↦
-                  dropped p d (put_in c ds) without ∙ put_level x c ds
-                  ∙ ap (λ (l : List X). cond (p c) (c ∷ l) l) (sym (dropped p d ds without))
+                  failing_is_dropped p d (put_in c ds) without ∙ put_level x c ds
+                  ∙ ap (λ (l : List X). cond (p c) (c ∷ l) l)
+                  (sym (failing_is_dropped p d ds without))
               | inl with ↦
                   elim (cases_Bool (p c)) [
                     | inl both ↦ absurd (omega (
@@ -146,9 +155,10 @@ module _ {X : Type 0} (rank : X → ℕ) where
                       one_rank x d with,
                     ))
                     | inr only ↦
-                        kept p d (put_in c ds) with
-                        ∙ ap (λ (l : List X). d ∷ l) (put_level x c ds ∙ dropped p c ds only)
-                        ∙ sym (dropped p c (d ∷ ds) only ∙ kept p d ds with)
+                        passing_is_kept p d (put_in c ds) with
+                        ∙ ap (λ (l : List X). d ∷ l)
+                        (put_level x c ds ∙ failing_is_dropped p c ds only)
+                        ∙ sym (failing_is_dropped p c (d ∷ ds) only ∙ passing_is_kept p d ds with)
                   ]
             ]
       ]
@@ -164,9 +174,10 @@ module _ {X : Type 0} (rank : X → ℕ) where
   put_at_least n x [] low h = (low, tt)
   put_at_least n x (y ∷ ys) low h =
       elim (cases_Bool (ltb (rank y) (rank x))) [
-        | inl pass ↦ subst (λ (l : List X). AreAtLeast n l) (sym (past x y ys pass))
+        | inl pass ↦ subst (λ (l : List X). AreAtLeast n l) (sym (put_behind_lower x y ys pass))
             (h.0, put_at_least n x ys low h.1)
-        | inr stay ↦ subst (λ (l : List X). AreAtLeast n l) (sym (stays x y ys stay)) (low, h)
+        | inr stay ↦ subst (λ (l : List X). AreAtLeast n l) (sym (put_before_others x y ys stay))
+            (low, h)
       ]
 
   put_rises : (x : X) (ys : List X) → Rises ys → Rises (put_in x ys)
@@ -175,11 +186,11 @@ module _ {X : Type 0} (rank : X → ℕ) where
       elim (cases_Bool (ltb (rank y) (rank x))) [
         | inl pass ↦
             let low = ltb-true (rank y) (rank x) pass in
-            subst (λ (l : List X). Rises l) (sym (past x y ys pass))
+            subst (λ (l : List X). Rises l) (sym (put_behind_lower x y ys pass))
             (put_at_least (rank y) x ys (omega arith) h.0, put_rises x ys h.1)
         | inr stay ↦
             let low = ltb-false (rank y) (rank x) stay in
-            subst (λ (l : List X). Rises l) (sym (stays x y ys stay))
+            subst (λ (l : List X). Rises l) (sym (put_before_others x y ys stay))
             ((low, less_too (rank x) (rank y) ys low h.0), h)
       ]
 
@@ -192,12 +203,14 @@ module _ {X : Type 0} (rank : X → ℕ) where
   put_same x (y ∷ ys) =
       elim (cases_Bool (ltb (rank y) (rank x))) [
         | inl pass ↦
-            subst (λ (l : List X). IsPermutation (x ∷ y ∷ ys) l) (sym (past x y ys pass))
+            subst (λ (l : List X). IsPermutation (x ∷ y ∷ ys) l)
+            (sym (put_behind_lower x y ys pass))
             (IsPermutation-trans (x ∷ y ∷ ys) (y ∷ x ∷ ys) (y ∷ put_in x ys)
             (IsPermutation-swap (x ∷ y ∷ ys) (y ∷ x ∷ ys) 0 1 (omega arith) (omega arith) refl)
             (IsPermutation-cons y (x ∷ ys) (put_in x ys) (put_same x ys)))
         | inr stay ↦
-            subst (λ (l : List X). IsPermutation (x ∷ y ∷ ys) l) (sym (stays x y ys stay))
+            subst (λ (l : List X). IsPermutation (x ∷ y ∷ ys) l)
+            (sym (put_before_others x y ys stay))
             (IsPermutation-refl (x ∷ y ∷ ys))
       ]
 
@@ -213,7 +226,7 @@ module _ {X : Type 0} (rank : X → ℕ) where
     in_order xs,
     record {
       same = all_same xs;
-      rising = rising (in_order xs) (all_rises xs);
+      rising = rising_is_non_decreasing (in_order xs) (all_rises xs);
       level = λ x. all_level x xs;
     },
   )

@@ -196,8 +196,8 @@ module _ (contents : Contents) (bytes : List ℕ) (p : Board)
       ap (length {A = ℕ}) (text_kept _ _ _ bytes
       (belongs (table_format (kind_of bytes)) bytes contents opens).file)
 
-  stays : staying (Some bytes) p ≡ staying_in contents p
-  stays = ap (λ (x : Result Contents TableFault). staying_by x p) opens
+  staying_by_contents : staying (Some bytes) p ≡ staying_in contents p
+  staying_by_contents = ap (λ (x : Result Contents TableFault). staying_by x p) opens
 
   rows_by_bytes : (name : List ℕ) (result : Result (List Row) Stop) (old mid new : StoreTold)
       → MayHold old.files name (Some bytes) → GivesRows (Some bytes) p result
@@ -206,8 +206,8 @@ module _ (contents : Contents) (bytes : List ℕ) (p : Board)
       → new.calls ≤ mid.calls + 2 * staying_in contents p → AreRowsRead name p result old new
   rows_by_bytes name result old mid new may due asked calls more_asked more_calls =
       rows_where name p result old new (Some bytes) may due
-      (omega (arith, asked, more_asked, text_long, stays))
-      (omega (arith, calls, more_calls, stays))
+      (omega (arith, asked, more_asked, text_long, staying_by_contents))
+      (omega (arith, calls, more_calls, staying_by_contents))
 
 -- the table was opened
 module _ (table : Table) (p : Board) (name : List ℕ) (old mid new : StoreTold)

@@ -43,8 +43,8 @@ fn check_named<S: Store, O: Sink, L: Ledger>(
     }
 }
 
-/// Runs the command `check`; `words` are the words behind its name, TABLE and 1 to 16 BACKs.
-/// Refuses a name that stands twice, before it reads a file.
+/// Runs the command `check TABLE BACK..`; `words` are TABLE and 1 to 16 BACKs. Refuses a name that
+/// stands twice, before it reads a file.
 pub fn run_check<S: Store, O: Sink, L: Ledger>(
     alloc: Global,
     words: &[String],

@@ -119,8 +119,7 @@ fn each_from<S: Store, O: Sink, L: Ledger>(
     }
 }
 
-/// Runs the command `each`; `words` are the two words behind its name, TABLE FEN. The FEN is read
-/// before the table.
+/// Runs the command `each TABLE FEN`; `words` are TABLE and FEN. The FEN is read before the table.
 pub fn run_each<S: Store, O: Sink, L: Ledger>(
     alloc: Global,
     words: &[String],

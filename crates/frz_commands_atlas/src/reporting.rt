@@ -76,8 +76,8 @@ fn report_named<S: Store, O: Sink, L: Ledger>(
     }
 }
 
-/// Runs the command `report`; `words` are the words behind its name, TABLE and 1 to 16 BACKs.
-/// Refuses a name that stands twice, before it reads a file. No code is checked.
+/// Runs the command `report TABLE BACK..`; `words` are TABLE and 1 to 16 BACKs. Refuses a name that
+/// stands twice, before it reads a file. No code is checked.
 pub fn run_report<S: Store, O: Sink, L: Ledger>(
     alloc: Global,
     words: &[String],

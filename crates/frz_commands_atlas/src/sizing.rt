@@ -24,7 +24,7 @@ fn size_named<S: Store, O: Sink>(alloc: Global, name: &str, store: &mut S, out: 
     }
 }
 
-/// Runs the command `size`; `words` is the one word behind its name, RULES.
+/// Runs the command `size RULES`; `words` is RULES.
 pub fn run_size<S: Store, O: Sink>(
     alloc: Global,
     words: &[String],

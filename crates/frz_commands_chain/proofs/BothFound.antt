@@ -84,9 +84,9 @@ not_again rules read fault old new steps there refused =
 module _ (rules back : List ℕ) (read : RulesText) (old mid new : StoreTold) (before now : ℕ)
     (there : IsTextRead rules (Ok read) old mid) (same : mid.files ≡ old.files)
     (differ : bytes_eq rules back ≡ false) where
-  both : (back_held : Option (List ℕ)) → MayHold mid.files back back_held
+  both_are_held : (back_held : Option (List ℕ)) → MayHold mid.files back back_held
       → HoldBoth old.files rules back (there.files rules) back_held
-  both back_held may =
+  both_are_held back_held may =
       hold_both old.files rules back (there.files rules) back_held differ
       (agreed_at old.files there.files rules there.agrees)
       (subst (λ (o : Option Files). MayHold o back back_held) same may)
@@ -99,7 +99,7 @@ module _ (rules back : List ℕ) (read : RulesText) (old mid new : StoreTold) (b
       → ((m : Files) → m rules ≡ there.files rules → m back ≡ back_held
       → GivesBoth (m rules) (m back) result) → AreBothRead rules back result old new before now
   both_read result back_held may within gives =
-      let at = both back_held may in
+      let at = both_are_held back_held may in
       let asked : new.asked ≤ old.asked + (asked_of (there.files rules) + bytes_of_back back_held) =
       (let a = there.asked in let b = within.asked in omega (arith, a, b)) in
       let call : new.calls

@@ -59,9 +59,10 @@ module _ (rules back table : List ℕ) (both : BothRead) (files : Files) (input 
         asked = omega (arith, asked, old_asked);
       }
 
-  pub stages : Stages (chaining_by both.read.text.items both.read.rules (loaded_back both.back)
+  pub chain_stages : Stages (chaining_by both.read.text.items both.read.rules
+      (loaded_back both.back)
       table) (chaining_at rules back table) files input old mid new
-  stages = record {
+  chain_stages = record {
     found = found_both rules back table (Ok both) files input old mid h agrees;
     answers = λ m i a fits same untaken built.
         let e : m ≡ h.files = same refl in

@@ -15,8 +15,9 @@ module _ (table back : List ℕ) (files : Files) (exact : ChainHeadline table ba
   abbrev own : Contents
   own = record { text = exact.text; rules = exact.rules }
 
-  tables : KeepsTables (chain_value exact.rules exact.behind) own exact.bytes
-  tables = both_tables (chain_value exact.rules exact.behind) own exact.bytes exact.white
+  keeps_chain_tables : KeepsTables (chain_value exact.rules exact.behind) own exact.bytes
+  keeps_chain_tables = both_tables (chain_value exact.rules exact.behind) own exact.bytes
+      exact.white
       exact.black exact.white_is exact.black_is exact.white_table exact.black_table
 
   is_opened : IsOpened (table_format Chained) exact.bytes own
@@ -47,4 +48,4 @@ module _ (table back : List ℕ) (files : Files) (exact : ChainHeadline table ba
         subst (λ (c : Contents). KeepsTables (chain_value c.rules exact.behind) c bytes)
         chain_contents
         (subst (λ (l : List ℕ). KeepsTables (chain_value exact.rules exact.behind) own l) same_bytes
-        tables)
+        keeps_chain_tables)

@@ -1,6 +1,6 @@
 mod BothHeld
 mod BackOnce
-mod Stopped
+mod ChainStops
 mod PairOnce
 mod Pairs
 mod PairMeaning

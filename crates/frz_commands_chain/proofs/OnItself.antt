@@ -45,11 +45,11 @@ chained_is_not_plain bytes contents opens =
 module _ (table : List ℕ) (files : Files) (input : List ℕ) (old new : World)
     (steps : new.steps ≡ old.steps) (agrees : Agrees old files input) where
   -- opening alone is within the costs
-  within : (m : Files) (held : Option (List ℕ)) → m table ≡ held
+  within_held_text : (m : Files) (held : Option (List ℕ)) → m table ≡ held
       → new.store.asked ≤ old.store.asked + (16 + length (held_text held))
       → new.store.calls ≤ old.store.calls + opening_calls (table_format Chained) held
       → WithinCosts (pair_costs (m table) (m table)) (spent old) (spent new)
-  within m held holds asked calls =
+  within_held_text m held holds asked calls =
       subst (λ (h : Option (List ℕ)). WithinCosts (pair_costs h h) (spent old) (spent new))
       (sym holds) (record {
         steps = omega (arith, steps);
@@ -79,7 +79,7 @@ module _ (table : List ℕ) (files : Files) (input : List ℕ) (old new : World)
               ∙ chained_is_not_plain may.bytes contents may.opens,
         )
             refl;
-        costs = within at.files held at.holds
+        costs = within_held_text at.files held at.holds
             (subst (λ (t : List ℕ). new.store.asked ≤ old.store.asked + (16 + length t)) (sym text)
             asked)
             (omega (arith, calls, five));
@@ -93,7 +93,7 @@ module _ (table : List ℕ) (files : Files) (input : List ℕ) (old new : World)
       let at = holding old.store.files table may.held may.may in
       let found = found_where (checking_pair table table) at.files files input old (λ e. cc)
       at.agrees agrees in
-      let costs = within at.files may.held at.holds may.asked may.calls in
+      let costs = within_held_text at.files may.held at.holds may.asked may.calls in
       stops_by (checking_pair table table) files input old new
       (opened (table_format Chained) (at.files table)) fault
       (λ e. record { found = found; answer = refused (refusals.Table fault) e refl; costs = costs })

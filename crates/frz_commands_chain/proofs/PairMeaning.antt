@@ -134,10 +134,11 @@ module _ (table back : List ℕ) (files : Files) (are : HoldsBytes files) where
   says_verdict (verdict.Wrong w) h = of_table (record { wrong = w; first = h; told = refl })
 
   -- by the status of a table that is refused
-  tells : (why : Refusal) (status : Status) → IsRefusedPair (files table) (files back) why
+  tells_refused_pair : (why : Refusal) (status : Status)
+      → IsRefusedPair (files table) (files back) why
       → status ≡ status_of why
       → TellsRefusal table back files status (refusal_line why)
-  tells why status h e = record { why = why; refused = h; status_is = e; told = refl }
+  tells_refused_pair why status h e = record { why = why; refused = h; status_is = e; told = refl }
 
   of_status : (why : Refusal) (fault : TableFault) → IsRefusedPair (files table) (files back) why
       → table_status fault ≡ status_of why
@@ -145,7 +146,8 @@ module _ (table back : List ℕ) (files : Files) (are : HoldsBytes files) where
   of_status why fault h e =
       by_table_status (λ s. s ≡ status_of why → MeansStatus table back files s (refusal_line why))
       fault
-      (λ is. tells why statuses.Missing h is) (λ is. tells why statuses.Table h is) e
+      (λ is. tells_refused_pair why statuses.Missing h is)
+      (λ is. tells_refused_pair why statuses.Table h is) e
 
   says_refusal : (why : Refusal) → IsRefusedPair (files table) (files back) why
       → MeansStatus table back files (status_of why) (refusal_line why)
@@ -154,7 +156,8 @@ module _ (table back : List ℕ) (files : Files) (are : HoldsBytes files) where
       (files back) why h
       (λ fault e. of_status (refusals.Table fault) fault e refl)
       (λ fault opens e. of_status (refusals.Back fault) fault (opens, e) refl)
-      (λ w opens e. of_back (tells (refusals.BackWrong w) statuses.Wrong (opens, e) refl))
+      (λ w opens e. of_back
+      (tells_refused_pair (refusals.BackWrong w) statuses.Wrong (opens, e) refl))
 
   -- the one files of two texts are exact
   exact_pair : HoldsPair table back files → IsJudgedPair (files table) (files back) verdict.Exact

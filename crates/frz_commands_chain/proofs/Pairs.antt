@@ -64,10 +64,10 @@ within_pair table back m held back_held old new e f h =
 module _ (table back : List ℕ) (files : Files) (input : List ℕ) (old new : World)
     (differ : bytes_eq table back ≡ false) (agrees : Agrees old files input) where
   -- files in which the names hold what they may hold
-  both : (held back_held : Option (List ℕ)) → MayHold old.store.files table held
+  both_may_hold : (held back_held : Option (List ℕ)) → MayHold old.store.files table held
       → MayHold old.store.files back back_held
       → HoldBoth old.store.files table back held back_held
-  both held back_held may back_may =
+  both_may_hold held back_held may back_may =
       hold_both old.store.files table back held back_held differ may back_may
 
   -- the verdict was told
@@ -77,7 +77,7 @@ module _ (table back : List ℕ) (files : Files) (input : List ℕ) (old new : W
       (chain_verdict_line (size_of h.contents.rules.groups) (size_of h.back_contents.rules.groups)
       (judgement v)) files input old new
   judged_so v h =
-      let at = both (Some h.bytes) (Some h.back_bytes) h.may h.back_may in record {
+      let at = both_may_hold (Some h.bytes) (Some h.back_bytes) h.may h.back_may in record {
         found = found_where (checking_pair table back) at.files files input old
             (λ e. cc) at.agrees agrees;
         answer =
@@ -109,7 +109,7 @@ module _ (table back : List ℕ) (files : Files) (input : List ℕ) (old new : W
       → WithinBoth held back_held old.store new.store old.steps new.steps
       → SaysAll (checking_pair table back) (status_of why) (refusal_line why) files input old new
   refused_so why held back_held may back_may h within =
-      let at = both held back_held may back_may in record {
+      let at = both_may_hold held back_held may back_may in record {
         found = found_where (checking_pair table back) at.files files input old
             (λ e. cc) at.agrees agrees;
         answer =
@@ -124,7 +124,7 @@ module _ (table back : List ℕ) (files : Files) (input : List ℕ) (old new : W
       fault
       → StopsWith (checking_pair table back) (stop_of_chain chain.Failed) files input old new
   begun_so fault h =
-      let at = both h.held h.back_held h.may h.back_may in record {
+      let at = both_may_hold h.held h.back_held h.may h.back_may in record {
         found = found_where (checking_pair table back) at.files files input old
             (λ e. cc) at.agrees agrees;
         some = some_pair table back at.files;

@@ -47,8 +47,8 @@ fn is_repeated(rules: &str, back: &str, table: &str) -> bool
     table == rules || table == back
 }
 
-/// The command `chain`; `words` are the three words behind its name, RULES BACK TABLE. Refuses a
-/// TABLE that is one of the other two names, before it reads a file.
+/// The command `chain RULES BACK TABLE`; `words` are RULES, BACK and TABLE. Refuses a TABLE that is
+/// one of the other two names, before it reads a file.
 pub fn chain<S: Store, L: Ledger>(
     alloc: Global,
     words: &[String],

@@ -41,7 +41,7 @@ fn check_on_itself<S: Store>(alloc: Global, table: &str, store: &mut S) -> Resul
     }
 }
 
-/// The command `chaincheck`; `words` are the two words behind its name, TABLE BACK.
+/// The command `chaincheck TABLE BACK`; `words` are TABLE and BACK.
 pub fn chaincheck<S: Store, L: Ledger>(
     alloc: Global,
     words: &[String],

@@ -1,4 +1,4 @@
 pub mod Joining
-pub mod Listed
-pub mod Moved
+pub mod MovesListed
+pub mod MoveOnce
 pub mod Lemmas

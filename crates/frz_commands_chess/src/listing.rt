@@ -96,7 +96,7 @@ fn list_moves<O: Sink, L: Ledger>(
     }
 }
 
-/// Runs the command `moves`; `words` is the one word behind its name, FEN.
+/// Runs the command `moves FEN`; `words` is FEN.
 pub fn run_moves<O: Sink, L: Ledger>(words: &[String], out: &mut O, steps: &mut Steps<L>) -> End
     ensures { (store : StoreTold) (input : SourceTold)
         → Ran (moves_words (map string_bytes words.now)) result
@@ -109,7 +109,7 @@ pub fn run_moves<O: Sink, L: Ledger>(words: &[String], out: &mut O, steps: &mut 
     }
 }
 
-/// Runs the command `sans`; `words` is the one word behind its name, FEN.
+/// Runs the command `sans FEN`; `words` is FEN.
 pub fn run_sans<O: Sink, L: Ledger>(words: &[String], out: &mut O, steps: &mut Steps<L>) -> End
     ensures { (store : StoreTold) (input : SourceTold)
         → Ran (sans_words (map string_bytes words.now)) result

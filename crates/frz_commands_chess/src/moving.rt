@@ -33,7 +33,7 @@ fn move_at<L: Ledger>(san: &str, p: &Position, steps: &mut Steps<L>) -> Reply
     }
 }
 
-/// The command `move`; `words` are the two words behind its name, FEN SAN.
+/// The command `move FEN SAN`; `words` are FEN and SAN.
 pub fn make_move<L: Ledger>(words: &[String], steps: &mut Steps<L>) -> Result<Reply, Stop>
     ensures { (store : StoreTold) → Replies (move_words (map string_bytes words.now)) result
         store store steps.old steps.new }

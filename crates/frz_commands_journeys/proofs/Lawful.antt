@@ -18,7 +18,7 @@ use Rattle.frz_commands_journeys.specs.JourneyOf.{IsPlayedAt, heard_by}
 use Rattle.frz_commands_journeys.specs.Journeying.{MeansAs, journey_words, journeying_at, journeying_for, journeying_named}
 use Rattle.frz_commands_journeys.specs.Words.{JourneyNames, is_same_file, journey_names_of}
 use Rattle.frz_commands_journeys.proofs.Means.{JourneyLaws, means_at}
-use Rattle.frz_commands_journeys.proofs.Played.{JourneyThere}
+use Rattle.frz_commands_journeys.proofs.JourneyEnds.{JourneyThere}
 use Rattle.frz_commands_journeys.proofs.Some.{JourneyAlone, one_at}
 
 abbrev player_of : Opponent → Colour → Player

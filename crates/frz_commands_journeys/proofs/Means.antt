@@ -61,7 +61,7 @@ use Rattle.frz_journeys.specs.Tables.{codes_of}
 use Rattle.frz_commands_journeys.specs.Endings.{answer_status}
 use Rattle.frz_commands_journeys.specs.JourneyOf.{IsPlayed, IsPlayedAt, IsPlayedBy, IsPlayedOver, leaning, played_text}
 use Rattle.frz_commands_journeys.specs.Meaning.{ArrivesSo, HasJourney, MeansStatus, Opens, start_code}
-use Rattle.frz_commands_journeys.proofs.Unstopped.{never_limited}
+use Rattle.frz_commands_journeys.proofs.LineUnstopped.{never_limited}
 
 -- what is proved of journeys
 pub record JourneyLaws : Type 0 where

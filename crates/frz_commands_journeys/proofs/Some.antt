@@ -31,7 +31,7 @@ use Rattle.frz_journeys.specs.declared.place.Place.TheVariants.{Own}
 use Rattle.frz_journeys.specs.Arrivals.{Arrives}
 use Rattle.frz_journeys.specs.Journeys.{IsJourney, Stage}
 use Rattle.frz_commands_journeys.specs.JourneyOf.{IsPlayed, IsPlayedAt, IsPlayedBy, journey_answer, leaning}
-use Rattle.frz_commands_journeys.proofs.Played.{JourneyThere}
+use Rattle.frz_commands_journeys.proofs.JourneyEnds.{JourneyThere}
 use Rattle.frz_commands_journeys.proofs.Texts.{arrival_of, journey_said, one_arrival, some_stages}
 
 -- that there is no other journey

@@ -14,8 +14,8 @@ use frz_ways::Opponent;
 use std::alloc::Global;
 use std::sync::ledger::Ledger;
 
-/// Runs the command `line`; `words` are the words behind its name, TABLE, FEN, SIDE and 1 to 16
-/// BACKs. No code is checked but those on the way.
+/// Runs the command `line TABLE FEN SIDE BACK..`; `words` are TABLE, FEN, SIDE and 1 to 16 BACKs.
+/// No code is checked but those on the way.
 pub fn run_line<S: Store, O: Sink, L: Ledger>(
     alloc: Global,
     words: &[String],

@@ -42,17 +42,18 @@ wrong_there w =
     (line_there (codes " kept " ++ decimal w.kept ++ (codes " given " ++ decimal w.given)))
 
 -- the end has a line, its own or the one that names it
-closing : (side : Colour) (end : EndOfLine) → 1 ≤ lines_in (last_line (told side end)) + lines_in
+closing_has_lines : (side : Colour) (end : EndOfLine)
+    → 1 ≤ lines_in (last_line (told side end)) + lines_in
     (naming_line (told side end))
-closing side (Wrong at kept given) =
+closing_has_lines side (Wrong at kept given) =
     let one = wrong_there (record { side = side; number = at.1; kept = kept; given = given }) in
     omega (arith, one)
-closing side NoBound = let one = line_there (codes "no bound") in omega (arith, one)
-closing side (Mated mover) = let one = end_there ends.Mate in omega (arith, one)
-closing side (Stalemated mover) = let one = end_there ends.Stalemate in omega (arith, one)
-closing side (Exit v) = let one = end_there (ends.Exit v) in omega (arith, one)
-closing side Cut = let one = end_there ends.Cut in omega (arith, one)
-closing side (Stopped reason) = elim reason [ ]
+closing_has_lines side NoBound = let one = line_there (codes "no bound") in omega (arith, one)
+closing_has_lines side (Mated mover) = let one = end_there ends.Mate in omega (arith, one)
+closing_has_lines side (Stalemated mover) = let one = end_there ends.Stalemate in omega (arith, one)
+closing_has_lines side (Exit v) = let one = end_there (ends.Exit v) in omega (arith, one)
+closing_has_lines side Cut = let one = end_there ends.Cut in omega (arith, one)
+closing_has_lines side (Stopped reason) = elim reason [ ]
 
 not_nil : (xs : List ℕ) → 1 ≤ lines_in xs → xs ≡ [] → ⊥
 not_nil [] one e = omega (arith, one)
@@ -88,7 +89,7 @@ pub told_said : (side : Colour) (code : ℕ) (plies : List LinePly) (end : EndOf
 told_said side code plies end =
     let answer = told side end in
     let first = start_line side code plies answer in
-    let closes = closing side end in
+    let closes = closing_has_lines side end in
     let last = lines_more (plies_text plies) (last_line answer) in
     let line = lines_more first (plies_text plies ++ last_line answer) in
     let all = lines_more (line_text side code plies answer) (naming_line answer) in

@@ -7,7 +7,7 @@ mod LineOpened
 mod Meaning
 mod OpeningCosts
 mod OutsideSet
-mod Opened
+mod TableOpened
 mod LineEndsWell
 mod KnownLine
 mod SessionLawful
@@ -17,5 +17,5 @@ mod SessionPlayed
 mod SessionSeen
 mod SessionTexts
 mod Stages
-mod Taken
+mod InputTaken
 pub mod Lemmas

@@ -44,7 +44,7 @@ use Rattle.frz_commands_line.proofs.OutsideSet.{outside_ran}
 use Rattle.frz_commands_line.proofs.KnownLine.{by_member}
 use Rattle.frz_commands_line.proofs.SessionSeen.{SessionThere, SessionSo, played_inside, played_outside, session_so}
 use Rattle.frz_commands_line.proofs.SessionTexts.{Answered, answered_at, never_cut}
-use Rattle.frz_commands_line.proofs.Taken.{rest_after, Split, found_in, after_lines, rest_left}
+use Rattle.frz_commands_line.proofs.InputTaken.{rest_after, Split, found_in, after_lines, rest_left}
 
 -- what was written of the session and taken of the input
 abbrev pub Played : Table → (later : ℕ → Files) → Colour → Board → Result SessionEnd PlayFault

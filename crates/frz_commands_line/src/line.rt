@@ -144,7 +144,7 @@ fn line_for<S: Store, O: Sink, L: Ledger>(
     }
 }
 
-/// Runs the command `line`; `words` are the three words behind its name: TABLE FEN SIDE.
+/// Runs the command `line TABLE FEN SIDE`; `words` are TABLE, FEN and SIDE.
 pub fn run_line<S: Store, O: Sink, L: Ledger>(
     alloc: Global,
     words: &[String],

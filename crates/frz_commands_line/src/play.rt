@@ -154,7 +154,7 @@ fn play_for<S: Store, I: Source, O: Sink, L: Ledger>(
     }
 }
 
-/// Runs the command `play`; `words` are the three words behind its name: TABLE FEN SIDE.
+/// Runs the command `play TABLE FEN SIDE`; `words` are TABLE, FEN and SIDE.
 pub fn run_play<S: Store, I: Source, O: Sink, L: Ledger>(
     alloc: Global,
     words: &[String],

@@ -17,7 +17,7 @@ use Rattle.frz_atlas.specs.Behind.{AreJudged, AreJudgedOver, TableBytes, kind_of
 use Rattle.frz_atlas.specs.Costs.{steps_of}
 use Rattle.frz_atlas.specs.Held.{all_held}
 use Rattle.frz_commands_premises.specs.PremiseLines.{TextLink, links_in, text_link_loaded, text_link_of}
-use Rattle.frz_commands_premises.proofs.Counted.{IsReadAs}
+use Rattle.frz_commands_premises.proofs.BeliefCounted.{IsReadAs}
 
 -- the links of tables with their texts are the links of the tables
 pub links_are : (tables : List TableBytes) →

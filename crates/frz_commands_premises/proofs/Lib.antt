@@ -3,11 +3,11 @@ mod Adding
 mod Sizes
 mod Telling
 mod Writable
-mod Counted
+mod BeliefCounted
 mod ExactTables
 mod SideWords
 mod Meaning
 mod Once
 mod Lawful
-mod Found
-mod Ended
+mod TablesFound
+mod PremisesEnd

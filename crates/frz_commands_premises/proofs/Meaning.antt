@@ -28,7 +28,7 @@ use Rattle.frz_atlas_prelude.proofs.Lemmas.{judged_over}
 use Rattle.frz_commands_premises.specs.PremiseLines.{TextLink, basis_lines, belief_among, links_in, text_link_of}
 use Rattle.frz_commands_premises.specs.Premises.{FindsPremises, IsToldAt, found, no_back, no_rules}
 use Rattle.frz_commands_premises.specs.PremisesMean.{AllLinesMean, LinesMean, MeansPremises, MeansStatus, TellsPremises}
-use Rattle.frz_commands_premises.proofs.Counted.{IsReadAs, none_counted}
+use Rattle.frz_commands_premises.proofs.BeliefCounted.{IsReadAs, none_counted}
 use Rattle.frz_commands_premises.proofs.ExactTables.{all_read, exact_front, links_are}
 use Rattle.frz_commands_premises.proofs.SideWords.{word_means}
 

@@ -74,8 +74,8 @@ fn tell_named<S: Store, O: Sink, L: Ledger>(
     }
 }
 
-/// Runs the command `premises`; `words` are the words behind its name, RULES and 0 to 16 BACKs.
-/// Refuses a name that stands twice, before it reads a file.
+/// Runs the command `premises RULES [BACK]..`; `words` are RULES and 0 to 16 BACKs. Refuses a name
+/// that stands twice, before it reads a file.
 pub fn run_premises<S: Store, O: Sink, L: Ledger>(
     alloc: Global,
     words: &[String],

@@ -13,7 +13,7 @@ use Rattle.frz_prelude.specs.declared.stop.Stop.{Stop}
 use Rattle.frz_prelude.specs.declared.stop.Stop.TheVariants.{Refused, Fault}
 use Rattle.frz_prelude.proofs.Lemmas.{StopsWith, found_where, of_rules}
 use Rattle.frz_commands_table.specs.BuildMeaning.{building_at}
-use Rattle.frz_commands_table.proofs.Built.{some_built_at, is_refused_at}
+use Rattle.frz_commands_table.proofs.BuildStages.{some_built_at, is_refused_at}
 
 -- the files over which it answers
 abbrev pub found_rules : (rules table : List ℕ) (m files : Files) (input : List ℕ) (old : World)

@@ -18,8 +18,9 @@ use Rattle.frz_commands_table.proofs.CheckMeaning.{check_accepts}
 
 module _ (rules table : List ℕ) (files : Files) (a : Answer) where
   -- what an answer of `build` with status 0 says
-  made : IsBuiltAt rules table files a → a.status ≡ Success → MakesTable rules table files a
-  made built done = subst (λ (s : Status). MeansByStatus rules table files a s) done
+  success_makes_table : IsBuiltAt rules table files a → a.status ≡ Success
+      → MakesTable rules table files a
+  success_makes_table built done = subst (λ (s : Status). MeansByStatus rules table files a s) done
       (build_means rules table files a built).says
 
   there_after : (m : MakesTable rules table files a) → a.files table ≡ Some m.bytes
@@ -50,4 +51,4 @@ pub built_accepted : (rules table : List ℕ) (files : Files) (a b : Answer)
     → IsCheckedAt table a.files b → b.status ≡ Success
 built_accepted rules table files a b built done checked =
     check_accepts table a.files (a.files table) refl b checked
-    (holds_one rules table files a (made rules table files a built done))
+    (holds_one rules table files a (success_makes_table rules table files a built done))

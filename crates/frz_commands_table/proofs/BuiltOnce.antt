@@ -22,7 +22,7 @@ use Rattle.frz_game.proofs.Lemmas.{table_one}
 use Rattle.frz_check.proofs.Lemmas.{one_file}
 use Rattle.frz_commands_table.specs.Building.{IsBuiltBy, IsBuiltIn, IsBuiltAt}
 use Rattle.frz_commands_table.specs.BuildMeaning.{building_at, build_words}
-use Rattle.frz_commands_table.proofs.Built.{some_built_at}
+use Rattle.frz_commands_table.proofs.BuildStages.{some_built_at}
 use Rattle.frz_commands_table.proofs.BuildMeaning.{build_means}
 
 module _ (table : List ℕ) (m : Files) (a b : Answer) where

@@ -14,8 +14,9 @@ module _ (table : List ℕ) (files : Files) (exact : Headline table files) where
   abbrev own : Contents
   own = record { text = exact.text; rules = exact.rules }
 
-  tables : KeepsTables (value_by exact.rules) own exact.bytes
-  tables = both_tables (value_by exact.rules) own exact.bytes exact.white exact.black exact.white_is
+  keeps_rules_tables : KeepsTables (value_by exact.rules) own exact.bytes
+  keeps_rules_tables = both_tables (value_by exact.rules) own exact.bytes exact.white exact.black
+      exact.white_is
       exact.black_is exact.white_table exact.black_table
 
   is_opened : IsOpened (table_format Plain) exact.bytes own
@@ -43,4 +44,5 @@ module _ (table : List ℕ) (files : Files) (exact : Headline table files) where
     pub headline_tables : KeepsTables (value_by contents.rules) contents bytes
     headline_tables =
         subst (λ (c : Contents). KeepsTables (value_by c.rules) c bytes) headline_contents
-        (subst (λ (l : List ℕ). KeepsTables (value_by exact.rules) own l) same_bytes tables)
+        (subst (λ (l : List ℕ). KeepsTables (value_by exact.rules) own l) same_bytes
+        keeps_rules_tables)

@@ -1,16 +1,16 @@
 pub mod Lemmas
-mod Built
+mod BuildStages
 mod BuildAsked
 mod BuildMeaning
 mod BuiltOnce
 mod JudgedFiles
 mod CheckMeaning
-mod Checked
+mod CheckEnds
 mod OneAccepted
 mod ExactFiles
 mod BuiltAccepted
 mod SampleText
-mod Sampled
+mod SampleOnce
 mod MovedCodes
 mod MovedFiles
 mod MigrateMeaning

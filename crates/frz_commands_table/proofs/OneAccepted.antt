@@ -27,9 +27,10 @@ held_bytes None are = tt
 held_bytes (Some bytes) are = are
 
 -- what an answer with status 0 says
-pub accepted : (table : List ℕ) (files : Files) (a : Answer) → AreBytes (bytes_at files table)
+pub accepted_headline : (table : List ℕ) (files : Files) (a : Answer)
+    → AreBytes (bytes_at files table)
     → IsCheckedAt table files a → a.status ≡ Success → Headline table files
-accepted table files a are checked done =
+accepted_headline table files a are checked done =
     let means = check_means table files a (held_bytes (files table) are) checked in
     let tells : TellsExact table files a.text = subst
     (λ (s : Status). MeansStatus table files s a.text) done means.says in

@@ -41,8 +41,8 @@ fn build_by<S: Store, L: Ledger>(
     Ok(Reply::Built(size))
 }
 
-/// The command `build`; `words` are the two words behind its name, RULES TABLE. Refuses two equal
-/// names, before it reads a file.
+/// The command `build RULES TABLE`; `words` are RULES and TABLE. Refuses two equal names, before it
+/// reads a file.
 pub fn build<S: Store, L: Ledger>(
     alloc: Global,
     words: &[String],

@@ -25,7 +25,7 @@ fn reply_on(judged: Judged) -> Reply
     }
 }
 
-/// The command `check`; `words` is the one word behind its name, TABLE.
+/// The command `check TABLE`; `words` is TABLE.
 pub fn check<S: Store, L: Ledger>(
     alloc: Global,
     words: &[String],

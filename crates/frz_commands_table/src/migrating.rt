@@ -72,8 +72,8 @@ fn migrate_at<S: Store>(alloc: Global, old: &str, new: &str, store: &mut S) -> R
     write_new(&moved, new, store)
 }
 
-/// The command `migrate`; `words` are the two words behind its name, OLD NEW. Refuses two equal
-/// names, before it reads a file.
+/// The command `migrate OLD NEW`; `words` are OLD and NEW. Refuses two equal names, before it reads
+/// a file.
 pub fn migrate<S: Store>(alloc: Global, words: &[String], store: &mut S) -> Result<Reply, Stop>
     ensures replies { (steps : ℕ) → Replies (migrate_words (map string_bytes words.now)) result
         (store_of S.Store store.old) (store_of S.Store store.new) steps steps }

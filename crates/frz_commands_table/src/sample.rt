@@ -147,7 +147,7 @@ fn sample_named<O: Sink, L: Ledger>(
     }
 }
 
-/// Runs the command `sample`; `words` is the one word behind its name, K. It uses no file.
+/// Runs the command `sample K`; `words` is K. It uses no file.
 pub fn run_sample<O: Sink, L: Ledger>(
     alloc: Global,
     words: &[String],

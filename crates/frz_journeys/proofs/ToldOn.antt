@@ -33,8 +33,8 @@ use Rattle.frz_journeys.specs.Onward.{GoesOnward}
 use Rattle.frz_journeys.specs.Playing.{PlaysJourney}
 use Rattle.frz_journeys.specs.Tables.{arena_over, codes_of}
 use Rattle.frz_journeys.proofs.Leaving.{AreGames}
-use Rattle.frz_journeys.proofs.Played.{ended_here, went_on}
-use Rattle.frz_journeys.proofs.Unwritten.{PlayedBehind, line_lines}
+use Rattle.frz_journeys.proofs.JourneySoFar.{ended_here, went_on}
+use Rattle.frz_journeys.proofs.StageWritten.{PlayedBehind, line_lines}
 
 module _ (opponent : Opponent) (side : Colour) (before : List BackTable) (table : BackTable)
     (place : Place) (start : ℕ) where

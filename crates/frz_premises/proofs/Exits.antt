@@ -16,7 +16,7 @@ use Rattle.frz_arena.specs.Exits.{IsExit}
 use Rattle.frz_arena.proofs.Lemmas.{none_in_empty}
 use Rattle.frz_game.specs.Games.{game_of}
 use Rattle.frz_premises.specs.WaysOut.{outside_after, outside_at, outside_of, outside_on}
-use Rattle.frz_premises.proofs.Listed.{in_filter, in_flat_map, in_map, in_range, of_filter, of_flat_map, of_map}
+use Rattle.frz_premises.proofs.InLists.{in_filter, in_flat_map, in_map, in_range, of_filter, of_flat_map, of_map}
 
 -- the test by which the ways out are kept
 abbrev is_out : List GroupLine → Board → Bool

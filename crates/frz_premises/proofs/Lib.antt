@@ -1,5 +1,5 @@
 pub mod Lemmas
-mod Listed
+mod InLists
 mod FirstLines
 mod Exits
 mod TableWords

@@ -25,7 +25,7 @@ use Rattle.frz_premises.specs.Needs.{IsTellable, NeedsBelief}
 use Rattle.frz_premises.specs.Saying.{none_says, says_as_much, says_at_each}
 use Rattle.frz_premises.specs.WaysOut.{outside_of}
 use Rattle.frz_premises.proofs.Exits.{unlisted}
-use Rattle.frz_premises.proofs.Listed.{of_filter}
+use Rattle.frz_premises.proofs.InLists.{of_filter}
 
 found_in : {X : Type 0} (test : X → Bool) (xs : List X) (x : X) → find test xs ≡ Some x →
     Contains xs x × (test x ≡ true)

@@ -39,7 +39,7 @@ use Rattle.frz_premises.specs.declared.sides.Strength.TheVariants.{Undecided, Ou
 use Rattle.frz_premises.specs.Sides.{bad_for, exits_tell, is_bad, renounces, strength_by, strength_of, value_behind, values_after, values_of, values_tell}
 use Rattle.frz_premises.specs.WaysOut.{outside_at, outside_below, outside_of, outside_on}
 use Rattle.frz_premises.proofs.Exits.{listed}
-use Rattle.frz_premises.proofs.Listed.{in_map}
+use Rattle.frz_premises.proofs.InLists.{in_map}
 use Rattle.frz_premises.proofs.Numbering.{outside_more}
 
 each_of : {X : Type 0} (test : X → Bool) (xs : List X) (x : X) → list_all test xs ≡ true →

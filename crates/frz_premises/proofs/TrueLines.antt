@@ -32,7 +32,7 @@ use Rattle.frz_premises.specs.Saying.{none_says, says_as_much, says_at_each}
 use Rattle.frz_premises.specs.WaysOut.{outside_of}
 use Rattle.frz_premises.proofs.Exits.{listed}
 use Rattle.frz_premises.proofs.FirstLines.{decides_first, first_cases}
-use Rattle.frz_premises.proofs.Listed.{in_filter, none_found}
+use Rattle.frz_premises.proofs.InLists.{in_filter, none_found}
 use Rattle.frz_premises.proofs.TableWords.{Proves, all_prove}
 
 -- what one of several tables says is true where each of them says what is true

@@ -18,7 +18,7 @@ use Rattle.frz_reasons.specs.LocalEntries.{Agrees, Differs, wrong_at}
 use Rattle.frz_reasons.specs.ReasonTexts.{denials_text}
 use Rattle.frz_reasons.specs.TellingDenials.{TellsDenials, TellsOwn}
 use Rattle.frz_reasons.proofs.Codes.{whose, same_side, other_side}
-use Rattle.frz_reasons.proofs.Denied.{free_ones, no_answer}
+use Rattle.frz_reasons.proofs.DenialsTold.{free_ones, no_answer}
 
 same_mover : (side mover : Colour) → same_colour mover side ≡ true → mover ≡ side
 same_mover side mover e = elim (whose side mover) [

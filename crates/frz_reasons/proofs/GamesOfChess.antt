@@ -29,7 +29,7 @@ use Rattle.frz_reasons.specs.declared.reason.Reason.{Reason}
 use Rattle.frz_reasons.specs.FailingWays.{IsPlayedAt, FailsFrom, wrong, mated, renounced, leaves, goes_on}
 use Rattle.frz_reasons.specs.FailingGames.{IsGameFrom, EndsAt, HasRenounced, position_behind}
 use Rattle.frz_reasons.proofs.Codes.{same_side}
-use Rattle.frz_reasons.proofs.Played.{played_arm, as_one}
+use Rattle.frz_reasons.proofs.MovePlayed.{played_arm, as_one}
 
 -- who is to move
 mover_of : (b : Bool) (ms : List Step) (check : Bool) (turn mover : Colour)

@@ -25,7 +25,7 @@ use Rattle.frz_reasons.specs.FailingGames.{IsRight, IsSpoiled}
 use Rattle.frz_reasons.specs.FailuresTell as tell
 use Rattle.frz_reasons.specs.FailuresTell.{FailsAt, code_behind}
 use Rattle.frz_reasons.proofs.Codes.{failure_least, hold_no_failure, not_other}
-use Rattle.frz_reasons.proofs.Played.{PlaysOn, plays_on}
+use Rattle.frz_reasons.proofs.MovePlayed.{PlaysOn, plays_on}
 
 -- an exit whose code is a failure is bad for the side, and its code is 3
 bad_exit : (lag : ℕ) (c : Class) → is_failure (exit_code c lag) ≡ true →

@@ -1,13 +1,13 @@
 mod Best
 mod Codes
-mod Spoiled
-mod Played
+mod MovesSpoiled
+mod MovePlayed
 mod OneWay
 mod Lengths
 mod Quickest
 mod GamesOfChess
 mod PlaceFacts
 mod Telling
-mod Turned
-mod Denied
+mod TurnFound
+mod DenialsTold
 mod DeniedAt

@@ -16,7 +16,7 @@ use Rattle.frz_reasons.specs.LocalEntries.{Agrees, wrong_at}
 use Rattle.frz_reasons.specs.FailingWays.{IsPlayedAt, FailsFrom, wrong, mated, renounced, leaves, goes_on}
 use Rattle.frz_reasons.specs.FailuresTell.{FailsAt, code_behind}
 use Rattle.frz_reasons.proofs.Codes.{failure_least}
-use Rattle.frz_reasons.proofs.Played.{one_played, played_arm, played_free, PlaysOn, plays_on, ComesOf, is_wrong, is_mated, is_renounced, is_played, comes_of}
+use Rattle.frz_reasons.proofs.MovePlayed.{one_played, played_arm, played_free, PlaysOn, plays_on, ComesOf, is_wrong, is_mated, is_renounced, is_played, comes_of}
 
 module _ (arena : Arena Step ℕ Value) (side : Colour) (codes : List ℕ) where
   -- the way whose moves and reason are these

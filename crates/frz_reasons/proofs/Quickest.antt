@@ -18,7 +18,7 @@ use Rattle.frz_arena.proofs.Lemmas.{AreCodes, win_and_failure, win_of}
 use Rattle.frz_reasons.specs.FailingWays.{IsPlayedAt}
 use Rattle.frz_reasons.specs.FailuresTell.{FailsAt, FailsBehind, code_behind, mated, renounced, moves, waits}
 use Rattle.frz_reasons.proofs.Codes.{hold_no_failure, not_other}
-use Rattle.frz_reasons.proofs.Played.{played_code}
+use Rattle.frz_reasons.proofs.MovePlayed.{played_code}
 
 bad_code : (n lag : ℕ) (c : Class) → c ≡ Bad → IsFailureWithin n (exit_code c lag)
 bad_code n lag Good e = absurd (cc)

@@ -11,4 +11,4 @@ mod Writing
 pub mod Lemmas
 mod Zugzwangs
 mod OpenExits
-mod Ended
+mod ReportEnds

@@ -29,7 +29,7 @@ use Rattle.frz_game.specs.Numbers.{is_member, position_at, numbers_by}
 use Rattle.frz_game.proofs.Lemmas.{arms_there}
 use Rattle.frz_ways.specs.ChessGames.{IsPlyFrom, IsGame, after_plies}
 use Rattle.frz_ways.specs.Lines.{LinePly}
-use Rattle.frz_ways.proofs.Chosen.{at_in}
+use Rattle.frz_ways.proofs.MoveChosen.{at_in}
 
 -- who is to move
 mover_of : (b : Bool) (ms : List Step) (check : Bool) (turn mover : Colour)

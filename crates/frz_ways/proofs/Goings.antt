@@ -14,7 +14,7 @@ use Rattle.frz_arena.specs.Inputs.{Answer, Reply, Stop}
 use Rattle.frz_arena.specs.Plies.{LeadsTo}
 use Rattle.frz_arena.specs.WayEnds.{Exit, Stopped}
 use Rattle.frz_arena.specs.Ways.{Over, Moves, stage, IsTakenBy, IsStopBy, IsWay}
-use Rattle.frz_ways.proofs.Chosen.{known}
+use Rattle.frz_ways.proofs.MoveChosen.{known}
 use Rattle.frz_ways.specs.declared.opponent.Opponent.{Opponent}
 use Rattle.frz_ways.specs.declared.opponent.Opponent.TheVariants as opponents
 use Rattle.frz_ways.specs.Hearing.{EndsWith, left_by}

@@ -49,9 +49,9 @@ use Rattle.frz_ways.specs.WayEnds as way_ends
 use Rattle.frz_ways.specs.WayEnds.{of_line}
 use Rattle.frz_ways.specs.WayTexts as way_texts
 use Rattle.frz_ways.specs.Ways.{EndOfWay, WayPly, finder, way_player}
-use Rattle.frz_ways.proofs.Chosen.{known}
+use Rattle.frz_ways.proofs.MoveChosen.{known}
 use Rattle.frz_ways.proofs.Stages.{stage_told, stage_due}
-use Rattle.frz_ways.proofs.Starting.{WroteWay}
+use Rattle.frz_ways.proofs.WayStarts.{WroteWay}
 
 -- the end of a line, as that of a way
 abbrev pub as_way : EndOfLine → EndOfWay

@@ -29,9 +29,9 @@ use Rattle.frz_ways.specs.WayEnds as way_ends
 use Rattle.frz_ways.specs.WayEnds.{of_session, told_why}
 use Rattle.frz_ways.specs.WayTexts as way_texts
 use Rattle.frz_ways.specs.Ways.{EndOfWay, WayPly}
-use Rattle.frz_ways.proofs.Finished.{same_cause, same_input}
-use Rattle.frz_ways.proofs.Starting.{WroteWay}
-use Rattle.frz_ways.proofs.Written.{same_wrote}
+use Rattle.frz_ways.proofs.WayFinished.{same_cause, same_input}
+use Rattle.frz_ways.proofs.WayStarts.{WroteWay}
+use Rattle.frz_ways.proofs.TurnWritten.{same_wrote}
 
 plies_are : (side : Colour) (plies : List WayPly)
     → way_texts.plies_text opponents.Input side plies ≡ plies_text side plies

@@ -32,7 +32,7 @@ use Rattle.frz_ways.specs.declared.due.Due.TheVariants as dues
 use Rattle.frz_ways.specs.Dues.{due_by, due_on}
 use Rattle.frz_ways.specs.SeenMoves.{choices_by, IsNextCode}
 use Rattle.frz_ways.proofs.Choices.{found_code}
-use Rattle.frz_ways.proofs.Chosen.{at_in}
+use Rattle.frz_ways.proofs.MoveChosen.{at_in}
 use Rattle.frz_ways.proofs.PlyDues.{PlyDue, ply_due, never_failing, still_early}
 use Rattle.frz_ways.proofs.MovesOfOneNumber.{next_code_is}
 use Rattle.frz_ways.specs.declared.way_end.WayEnd.TheVariants as ends

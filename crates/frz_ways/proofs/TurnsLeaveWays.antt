@@ -29,7 +29,7 @@ use Rattle.frz_graph.specs.FreeCodes.{free_among}
 use Rattle.frz_ways.specs.declared.due.Due.{Due}
 use Rattle.frz_ways.specs.SeenMoves.{choices_by}
 use Rattle.frz_ways.specs.Texts.{exit_line, move_line, next_line}
-use Rattle.frz_ways.proofs.Chosen.{AsksForOne, FillsLocal, arm_found, known, local_code_of}
+use Rattle.frz_ways.proofs.MoveChosen.{AsksForOne, FillsLocal, arm_found, known, local_code_of}
 use Rattle.frz_ways.proofs.Stages.{stage_told, stage_due}
 use Rattle.frz_ways.specs.declared.way_end.WayEnd.{WayEnd}
 use Rattle.frz_ways.specs.declared.session_end.PlayFault.{PlayFault}

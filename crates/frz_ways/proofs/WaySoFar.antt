@@ -15,7 +15,7 @@ use Rattle.frz_arena.specs.declared.arm.Next.TheVariants.{Inside}
 use Rattle.frz_arena.specs.Arena.{Arena}
 use Rattle.frz_ways.specs.Costs.{way_numbers, SpendsAt}
 use Rattle.frz_ways.specs.Kept.{MayRead}
-use Rattle.frz_ways.proofs.Gathered.{any_read}
+use Rattle.frz_ways.proofs.CodesGathered.{any_read}
 use Rattle.frz_ways.proofs.ReadBefore.{and_now, before_is, now_is, now_may}
 use Rattle.frz_ways.proofs.Spending.{came_on, nothing_spent, spends_last, spends_on}
 use Rattle.frz_ways.specs.declared.way_end.Finish.{Finish}
@@ -37,7 +37,7 @@ use Rattle.frz_ways.specs.SessionTexts.{end_text, start_line}
 use Rattle.frz_ways.specs.WayTexts.{plies_text, way_text}
 use Rattle.frz_ways.specs.Turns.{rest_text, Leaves, GoesBy}
 use Rattle.frz_ways.proofs.Taking.{took_none, took_on}
-use Rattle.frz_ways.proofs.Written.{wrote_after, same_wrote}
+use Rattle.frz_ways.proofs.TurnWritten.{wrote_after, same_wrote}
 
 -- what is left of a way from the start, behind the text that was written and the numbers that it
 -- came to

@@ -1,7 +1,7 @@
-mod Picked
+mod FilterPicks
 pub mod TenNumbers
 mod ReadTexts
 mod RookText
-mod Unconditional
+mod UnconditionalTexts
 mod PawnBackText
 mod PawnOverBack

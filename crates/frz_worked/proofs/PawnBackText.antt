@@ -40,8 +40,8 @@ one_more j kinds n rest k i e =
       | inr later ↦ rest k later e
     ]
 
-whole : IsWholeSet pawn_back
-whole = record {
+pawn_back_is_whole : IsWholeSet pawn_back
+pawn_back_is_whole = record {
   groups = (
     (
       record {
@@ -82,7 +82,7 @@ unfolding are_drawn_by_men
 no_line = refl
 
 pub pawn_back_drawn : IsDrawnOutside pawn_back (value_by pawn_back)
-pawn_back_drawn = whole_set_drawn pawn_back whole no_line
+pawn_back_drawn = whole_set_drawn pawn_back pawn_back_is_whole no_line
 
 pub pawn_back_table : (rules : RuleLines) → rules_of pawn_back_text ≡ Ok rules → (side : Colour)
     (codes : List ℕ) → IsTableOf rules (value_by rules) side codes →

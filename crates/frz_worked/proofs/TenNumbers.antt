@@ -21,7 +21,7 @@ use Rattle.frz_graph.specs.Finite.{IsFinite}
 use Rattle.frz_worked.specs.declared.ten.Edge.{Edge}
 use Rattle.frz_worked.specs.declared.ten.TheConstants.{NODES, EDGES}
 use Rattle.frz_worked.specs.Ten.{target_of, step_of, is_free, arm_of, arm_from, pred_of, pred_to, preds_to, leads_to, game}
-use Rattle.frz_worked.proofs.Picked.{Apart, picked_from, picked_in, picked_more, one_place}
+use Rattle.frz_worked.proofs.FilterPicks.{Apart, picked_from, picked_in, picked_more, one_place}
 
 -- a number at which the game goes on, and one that is not broken
 is_going : Node → Bool
@@ -71,48 +71,49 @@ edges_apart : none_clash EDGES ≡ true
 unfolding none_clash clash
 edges_apart = refl
 
-each : {X : Type 0} (test : X → Bool) (xs : List X) (x : X) → list_all test xs ≡ true →
+each_passes : {X : Type 0} (test : X → Bool) (xs : List X) (x : X) → list_all test xs ≡ true →
     Contains xs x → test x ≡ true
-each test [] x h i = absurd (omega (arith, i.1))
-each test (y ∷ ys) x h i =
+each_passes test [] x h i = absurd (omega (arith, i.1))
+each_passes test (y ∷ ys) x h i =
     let b = and_parts (test y) (list_all test ys) h in
-    elim (in_cases y ys x i) [ inl e ↦ ap test (sym e) ∙ b.0 | inr j ↦ each test ys x b.1 j ]
+    elim (in_cases y ys x i) [ inl e ↦ ap test (sym e) ∙ b.0 | inr j ↦ each_passes test ys x b.1 j ]
 
 -- of one number and one target
 abbrev Clash : Edge → Edge → Type 0
 Clash e g = (e.number ≡ g.number) × (target_of e.next ≡ target_of g.next)
 
-apart : (es : List Edge) → none_clash es ≡ true → Apart Clash es
+apart_by_test : (es : List Edge) → none_clash es ≡ true → Apart Clash es
 unfolding none_clash clash
-apart [] h = tt
-apart (e ∷ es) h =
+apart_by_test [] h = tt
+apart_by_test (e ∷ es) h =
     let both = and_parts (list_all (λ g. not (clash e g)) es) (none_clash es) h in (
       λ g i c. absurd (true≢false
-          (sym (each (λ x. not (clash e x)) es g both.0 i)
+          (sym (each_passes (λ x. not (clash e x)) es g both.0 i)
           ∙ ap not (and_from (e.number == g.number) (target_of e.next == target_of g.next)
           (eq-eqb e.number g.number c.0) (eq-eqb (target_of e.next) (target_of g.next) c.1)))),
-      apart es both.1,
+      apart_by_test es both.1,
     )
 
-kept : {Y : Type 0} (b : Bool) (y z : Y) → cond b (Some y) None ≡ Some z → (b ≡ true) × (y ≡ z)
-kept true y z e = (refl, same_Some y z e)
-kept false y z e = absurd cc
+kept_passes : {Y : Type 0} (b : Bool) (y z : Y) → cond b (Some y) None ≡ Some z
+    → (b ≡ true) × (y ≡ z)
+kept_passes true y z e = (refl, same_Some y z e)
+kept_passes false y z e = absurd cc
 
-keeps : {Y : Type 0} (b : Bool) (y : Y) → b ≡ true → cond b (Some y) None ≡ Some y
-keeps b y e = ap (λ t. cond t (Some y) None) e
+passing_is_kept : {Y : Type 0} (b : Bool) (y : Y) → b ≡ true → cond b (Some y) None ≡ Some y
+passing_is_kept b y e = ap (λ t. cond t (Some y) None) e
 
 -- the edge of a move, and of a move back
 edge_of : (i : ℕ) (a : Arm) → IsArm game i a →
     (e : Edge) × Contains EDGES e × (e.number ≡ i) × (arm_of e ≡ a)
 edge_of i a h =
     let r = picked_from (arm_from i) EDGES a h in
-    let k = kept (r.0.number == i) (arm_of r.0) a r.2 in
+    let k = kept_passes (r.0.number == i) (arm_of r.0) a r.2 in
     (r.0, r.1, eqb-true r.0.number i k.0, k.1)
 
 arm_at : (e : Edge) → Contains EDGES e → IsArm game e.number (arm_of e)
 arm_at e i =
     picked_in (arm_from e.number) EDGES e (arm_of e) i
-    (keeps (e.number == e.number) (arm_of e) (eq-eqb e.number e.number refl))
+    (passing_is_kept (e.number == e.number) (arm_of e) (eq-eqb e.number e.number refl))
 
 inside_of : (q : ℕ) (n : Next) → leads_to q n ≡ true → n ≡ Inside q
 inside_of q (Inside p) h = ap Inside (eqb-true p q h)
@@ -125,7 +126,7 @@ back_of : (q : ℕ) (p : Pred) → Contains (preds_to q) p →
     (e : Edge) × Contains EDGES e × (e.next ≡ Inside q) × (pred_of e ≡ p)
 back_of q p h =
     let r = picked_from (pred_to q) EDGES p h in
-    let k = kept (leads_to q r.0.next) (pred_of r.0) p r.2 in
+    let k = kept_passes (leads_to q r.0.next) (pred_of r.0) p r.2 in
     (r.0, r.1, inside_of q r.0.next k.0, k.1)
 
 -- the moves back are the moves
@@ -143,16 +144,17 @@ preds_are q i m = (
       let s : step_of r.0.next ≡ h.0.mv = ap (λ (a : Arm). a.mv) r.3 in
       let p : pred_of r.0 ≡ record { number = i; mv = m } = cc (r.2, s, h.2) in
       picked_in (pred_to q) EDGES r.0 (record { number = i; mv = m }) r.1
-      (keeps (leads_to q r.0.next) (pred_of r.0) (leads_at q r.0.next (n ∙ h.3)) ∙ ap Some p),
+      (passing_is_kept (leads_to q r.0.next) (pred_of r.0) (leads_at q r.0.next (n ∙ h.3))
+      ∙ ap Some p),
 )
 
 pub preds_once : (q : ℕ) → HaveDifferentNumbers (preds_to q)
 preds_once q k l x y a b s =
     one_place (pred_to q) Clash (λ (u v : Pred). u.number ≡ v.number) EDGES
-    (apart EDGES edges_apart) (λ _ _ e. sym e)
+    (apart_by_test EDGES edges_apart) (λ _ _ e. sym e)
     (λ e g u v c d t.
-    let f = kept (leads_to q e.next) (pred_of e) u c in
-    let h = kept (leads_to q g.next) (pred_of g) v d in
+    let f = kept_passes (leads_to q e.next) (pred_of e) u c in
+    let h = kept_passes (leads_to q g.next) (pred_of g) v d in
     let n : e.number ≡ u.number = ap (λ (p : Pred). p.number) f.1 in
     let o : g.number ≡ v.number = ap (λ (p : Pred). p.number) h.1 in (
       n ∙ (t ∙ sym o),
@@ -167,33 +169,34 @@ more_by : {Y : Type 0} (f : Edge → Option Y) (k : ℕ) (d : Edge) (o : Option 
 more_by f k d o l e =
     picked_more f EDGES k d l ∙ ap (λ p. filter_map f (take k EDGES) ++ cons_option p []) e
 
-drops : {Y : Type 0} (b : Bool) (y : Y) → b ≡ false → cond b (Some y) None ≡ None
-drops b y e = ap (λ t. cond t (Some y) None) e
+failing_is_dropped : {Y : Type 0} (b : Bool) (y : Y) → b ≡ false → cond b (Some y) None ≡ None
+failing_is_dropped b y e = ap (λ t. cond t (Some y) None) e
 
 pub arms_more : (i k : ℕ) (d : Edge) → k < 15 → (get_or EDGES k d).number ≡ i →
     filter_map (arm_from i) (take (k + 1) EDGES)
     ≡ filter_map (arm_from i) (take k EDGES) ++ arm_of (get_or EDGES k d) ∷ []
 arms_more i k d l e = let edge = get_or EDGES k d in
     more_by (arm_from i) k d (Some (arm_of edge)) l
-    (keeps (edge.number == i) (arm_of edge) (eq-eqb edge.number i e))
+    (passing_is_kept (edge.number == i) (arm_of edge) (eq-eqb edge.number i e))
 
 pub arms_same : (i k : ℕ) (d : Edge) → k < 15 → (get_or EDGES k d).number ≢ i →
     filter_map (arm_from i) (take (k + 1) EDGES) ≡ filter_map (arm_from i) (take k EDGES)
 arms_same i k d l n = let edge = get_or EDGES k d in
     more_by (arm_from i) k d None l
-    (drops (edge.number == i) (arm_of edge) (ne_eqb edge.number i n))
+    (failing_is_dropped (edge.number == i) (arm_of edge) (ne_eqb edge.number i n))
     ∙ append-nil (filter_map (arm_from i) (take k EDGES))
 
 pub preds_more : (q k : ℕ) (d : Edge) → k < 15 → leads_to q (get_or EDGES k d).next ≡ true →
     filter_map (pred_to q) (take (k + 1) EDGES)
     ≡ filter_map (pred_to q) (take k EDGES) ++ pred_of (get_or EDGES k d) ∷ []
 preds_more q k d l e = let edge = get_or EDGES k d in
-    more_by (pred_to q) k d (Some (pred_of edge)) l (keeps (leads_to q edge.next) (pred_of edge) e)
+    more_by (pred_to q) k d (Some (pred_of edge)) l
+    (passing_is_kept (leads_to q edge.next) (pred_of edge) e)
 
 pub preds_same : (q k : ℕ) (d : Edge) → k < 15 → leads_to q (get_or EDGES k d).next ≡ false →
     filter_map (pred_to q) (take (k + 1) EDGES) ≡ filter_map (pred_to q) (take k EDGES)
 preds_same q k d l e = let edge = get_or EDGES k d in
-    more_by (pred_to q) k d None l (drops (leads_to q edge.next) (pred_of edge) e)
+    more_by (pred_to q) k d None l (failing_is_dropped (leads_to q edge.next) (pred_of edge) e)
     ∙ append-nil (filter_map (pred_to q) (take k EDGES))
 
 -- the laws of the game
@@ -210,16 +213,17 @@ goes_on (suc (suc (suc (suc (suc (suc (suc (suc zero)))))))) c e h = cc
 goes_on (suc (suc (suc (suc (suc (suc (suc (suc (suc zero))))))))) c e h = cc
 goes_on (suc (suc (suc (suc (suc (suc (suc (suc (suc (suc p)))))))))) c e h = cc
 
-fit : (e : Edge) → Contains EDGES e →
+edge_fits : (e : Edge) → Contains EDGES e →
     (is_going (game.node e.number) ≡ true) × (fits_next e.next ≡ true)
 unfolding fits
-fit e i = and_parts (is_going (game.node e.number)) (fits_next e.next) (each fits EDGES e all_fit i)
+edge_fits e i = and_parts (is_going (game.node e.number)) (fits_next e.next)
+    (each_passes fits EDGES e all_fit i)
 
 fit_arm : (i : ℕ) (a : Arm) → IsArm game i a → (is_going (game.node i) ≡ true)
     × (fits_next a.next ≡ true)
 fit_arm i a h =
     let r = edge_of i a h in
-    let f = fit r.0 r.1 in
+    let f = edge_fits r.0 r.1 in
     let n : r.0.next ≡ a.next = ap (λ (x : Arm). x.next) r.3 in
     (subst (λ j. is_going (game.node j) ≡ true) r.2 f.0, subst (λ x. fits_next x ≡ true) n f.1)
 
@@ -233,8 +237,8 @@ outside_fits : (v : Value) → fits_next (Outside v) ≡ true → lag_of v ≤ 1
 unfolding fits_next
 outside_fits v h = let l = ltb-true (lag_of v) 1001 h in omega (arith, l)
 
-pub finite : IsFinite game 10
-finite = record {
+pub game_is_finite : IsFinite game 10
+game_is_finite = record {
   lawful = record { goes_on = goes_on; opposed = opposed };
   numbered = record { past = λ i l. get_or_past NODES i Broken l };
   going = λ i a h. going_from (game.node i) (fit_arm i a h).0;
@@ -245,13 +249,14 @@ finite = record {
   few = omega arith;
 }
 
-pub different : HasDifferentArms game
-different i k l q a b =
-    one_place (arm_from i) Clash (λ (u v : Arm). u.next ≡ v.next) EDGES (apart EDGES edges_apart)
+pub arms_are_different : HasDifferentArms game
+arms_are_different i k l q a b =
+    one_place (arm_from i) Clash (λ (u v : Arm). u.next ≡ v.next) EDGES
+    (apart_by_test EDGES edges_apart)
     (λ _ _ e. sym e)
     (λ e g u v c d t.
-    let f = kept (e.number == i) (arm_of e) u c in
-    let h = kept (g.number == i) (arm_of g) v d in
+    let f = kept_passes (e.number == i) (arm_of e) u c in
+    let h = kept_passes (g.number == i) (arm_of g) v d in
     let n : e.next ≡ u.next = ap (λ (x : Arm). x.next) f.1 in
     let o : g.next ≡ v.next = ap (λ (x : Arm). x.next) h.1 in
     (eqb-true e.number i f.0 ∙ sym (eqb-true g.number i h.0), ap target_of (n ∙ (t ∙ sym o)))) k l

@@ -1,6 +1,6 @@
 use Rattle.std.proofs.lemmas.Result.{err_from_is_err_and}
 use Rattle.frz_store.specs.Told.{store_of}
-use Rattle.frz_atlas.proofs.Loaded.{loaded_one, not_loaded}
+use Rattle.frz_atlas.proofs.TableLoaded.{loaded_one, not_loaded}
 use Rattle.frz_atlas.proofs.loading.load_own.Goals as goal
 
 pub returns-in_err-white-clause-refused : goal.returns-in_err-white-clause-refused

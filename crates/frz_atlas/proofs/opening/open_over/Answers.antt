@@ -7,7 +7,7 @@ use Rattle.frz_chain.specs.FileOn.{loaded_back}
 use Rattle.frz_chain.specs.declared.back.BackTable.{BackTable}
 use Rattle.frz_atlas.specs.Opening.{link_with}
 use Rattle.frz_atlas.proofs.Causes.{given_cause, one_cause, one_later}
-use Rattle.frz_atlas.proofs.Opened.{JudgedOver, back_given, back_wrong, judged_over, not_loaded, not_opened}
+use Rattle.frz_atlas.proofs.TableFound.{JudgedOver, back_given, back_wrong, judged_over, not_loaded, not_opened}
 use Rattle.frz_atlas.proofs.opening.open_over.Given.{Over}
 use Rattle.frz_atlas.proofs.opening.open_over.Goals as goal
 use Rattle.frz_atlas.proofs.opening.open_over.Goals.{After-exact_back}

@@ -7,8 +7,8 @@ use Rattle.frz_commands_ask.proofs.kept.codes_in.Goals as goal
 use Rattle.frz_commands_ask.proofs.kept.codes_in.Goals.{In_ok-i}
 
 -- the position is in the set
-inside : (g : Over) (c : In_ok-i g) → Member c.args.table.now.rules.groups c.args.p.now
-inside g c =
+is_member_inside : (g : Over) (c : In_ok-i g) → Member c.args.table.now.rules.groups c.args.p.now
+is_member_inside g c =
     inside_it c.args.table.now c.set.result.now c.set.ensures c.args.p.now c.in_ok-i.i
     c.in_ok-i.ensures
 
@@ -28,7 +28,7 @@ returns-clause-kept g c =
     let groups = c.set.result.now in
     let told = g.S.Store.files c.args.store.now in
     record {
-      inside = inside g (goal.at.returns-clause-kept g c).In_ok-i;
+      inside = is_member_inside g (goal.at.returns-clause-kept g c).In_ok-i;
       white_small = omega arith;
       black_small = omega arith;
       white =
@@ -44,24 +44,24 @@ returns-clause-kept g c =
 
 pub returns-clause-unread : goal.returns-clause-unread
 returns-clause-unread g c = λ none.
-    absurd (none (inside g (goal.at.returns-clause-unread g c).In_ok-i))
+    absurd (none (is_member_inside g (goal.at.returns-clause-unread g c).In_ok-i))
 
 pub returns-in_err-white-clause-unread : goal.returns-in_err-white-clause-unread
 returns-in_err-white-clause-unread g c = λ none.
-    absurd (none (inside g (goal.at.returns-in_err-white-clause-unread g c).In_ok-i))
+    absurd (none (is_member_inside g (goal.at.returns-in_err-white-clause-unread g c).In_ok-i))
 
 pub returns-in_err-black-clause-unread : goal.returns-in_err-black-clause-unread
 returns-in_err-black-clause-unread g c = λ none.
-    absurd (none (inside g (goal.at.returns-in_err-black-clause-unread g c).In_ok-i))
+    absurd (none (is_member_inside g (goal.at.returns-in_err-black-clause-unread g c).In_ok-i))
 
 pub returns-clause-unasked : goal.returns-clause-unasked
 returns-clause-unasked g c = λ none.
-    absurd (none (inside g (goal.at.returns-clause-unasked g c).In_ok-i))
+    absurd (none (is_member_inside g (goal.at.returns-clause-unasked g c).In_ok-i))
 
 pub returns-in_err-white-clause-unasked : goal.returns-in_err-white-clause-unasked
 returns-in_err-white-clause-unasked g c = λ none.
-    absurd (none (inside g (goal.at.returns-in_err-white-clause-unasked g c).In_ok-i))
+    absurd (none (is_member_inside g (goal.at.returns-in_err-white-clause-unasked g c).In_ok-i))
 
 pub returns-in_err-black-clause-unasked : goal.returns-in_err-black-clause-unasked
 returns-in_err-black-clause-unasked g c = λ none.
-    absurd (none (inside g (goal.at.returns-in_err-black-clause-unasked g c).In_ok-i))
+    absurd (none (is_member_inside g (goal.at.returns-in_err-black-clause-unasked g c).In_ok-i))

@@ -10,7 +10,7 @@ use Rattle.frz_prelude.proofs.Lemmas.{at_position, found_where, no_position, not
 use Rattle.frz_commands_ask.specs.declared.kept.KeptCodes.{KeptCodes}
 use Rattle.frz_commands_ask.specs.Kept.{answer_by}
 use Rattle.frz_commands_ask.specs.Querying.{querying_at}
-use Rattle.frz_commands_ask.proofs.Queried.{own_stop, stopped_at}
+use Rattle.frz_commands_ask.proofs.QueryEnds.{own_stop, stopped_at}
 use Rattle.frz_commands_ask.proofs.querying.query_kind.Goals as goal
 
 abbrev by_words : FileKind → List ℕ × List ℕ → Job

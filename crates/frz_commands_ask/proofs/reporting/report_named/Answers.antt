@@ -7,7 +7,7 @@ use Rattle.frz_answer.proofs.Lemmas.{quiet_store}
 use Rattle.frz_table.specs.Tables.{Table}
 use Rattle.frz_report.specs.declared.fault.Totals.{Totals}
 use Rattle.frz_commands_ask.specs.Reporting.{reporting_at}
-use Rattle.frz_commands_ask.proofs.Reported.{reported, stopped_so}
+use Rattle.frz_commands_ask.proofs.ReportEnds.{report_ends, stopped_so}
 use Rattle.frz_commands_ask.proofs.reporting.report_named.Goals as goal
 
 pub returns-in-Ok : goal.returns-in-Ok
@@ -15,7 +15,7 @@ returns-in-Ok g c = λ input.
     let e = c.in-Ok.ensures in
     let r = c.report.ensures in
     rw c.end_of.ensures
-    (reported c.args.name.now c.in-Ok.table (store_of g.S.Store c.args.store.now)
+    (report_ends c.args.name.now c.in-Ok.table (store_of g.S.Store c.args.store.now)
     (store_of g.S.Store c.open_table.new.store) (store_of g.S.Store c.report.new.store)
     input (sink_of g.O.Sink c.args.out.now) (sink_of g.O.Sink c.report.new.out) c.args.steps.now
     c.report.new.steps

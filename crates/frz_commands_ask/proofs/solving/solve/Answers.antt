@@ -8,7 +8,7 @@ use Rattle.frz_prelude.specs.declared.reply.Reply.TheVariants as replies
 use Rattle.frz_prelude.proofs.Lemmas.{at_position, no_position, not_taken, said_reply, stopped_reply, taken}
 use Rattle.frz_commands_ask.specs.declared.bounds.Bounds.{Bounds}
 use Rattle.frz_commands_ask.specs.Meaning.{solving_at}
-use Rattle.frz_commands_ask.proofs.Asked.{bounds_told, found_cause, not_found, own_found, own_stop, stopped_at}
+use Rattle.frz_commands_ask.proofs.SolveEnds.{bounds_told, found_cause, not_found, own_found, own_stop, stopped_at}
 use Rattle.frz_commands_ask.proofs.solving.solve.Goals as goal
 
 abbrev by_words : List ℕ × List ℕ → Job

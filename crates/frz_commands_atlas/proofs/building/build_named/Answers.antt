@@ -7,7 +7,7 @@ use Rattle.frz_prelude.specs.declared.rules_at.RulesText.{RulesText}
 use Rattle.frz_prelude.proofs.Lemmas.{ended, may_stop}
 use Rattle.frz_atlas_prelude.proofs.Lemmas.{first_alone, not_contained}
 use Rattle.frz_commands_atlas.specs.Building.{building_at}
-use Rattle.frz_commands_atlas.proofs.Built.{made_so, not_made_so, own_stop, small_place, stopped_at}
+use Rattle.frz_commands_atlas.proofs.BuildEnds.{made_so, not_made_so, own_stop, small_place, stopped_at}
 use Rattle.frz_commands_atlas.proofs.building.build_named.Goals as goal
 
 pub returns-in-Err : goal.returns-in-Err

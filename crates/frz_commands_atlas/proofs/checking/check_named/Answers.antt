@@ -1,4 +1,4 @@
-use Rattle.frz_commands_atlas.proofs.Checked.{refused_so, small_place, told_so}
+use Rattle.frz_commands_atlas.proofs.CheckEnds.{refused_so, small_place, told_so}
 use Rattle.frz_commands_atlas.proofs.checking.check_named.Goals as goal
 
 pub returns-in-Ok : goal.returns-in-Ok

@@ -1,6 +1,6 @@
 use Rattle.std.proofs.Common.{arith}
 use Rattle.frz_atlas_prelude.proofs.Lemmas.{small_unread}
-use Rattle.frz_commands_atlas.proofs.Reported.{refused_so, told_so}
+use Rattle.frz_commands_atlas.proofs.ReportEnds.{refused_so, told_so}
 use Rattle.frz_commands_atlas.proofs.reporting.report_named.Goals as goal
 
 pub returns-in-Ok : goal.returns-in-Ok

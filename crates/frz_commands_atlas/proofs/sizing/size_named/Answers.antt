@@ -4,7 +4,7 @@ use Rattle.frz_answer.proofs.Lemmas.{fine_store, quiet_store, said}
 use Rattle.frz_prelude.specs.declared.rules_at.RulesText.{RulesText}
 use Rattle.frz_prelude.proofs.Lemmas.{ended, found_where, may_stop}
 use Rattle.frz_commands_atlas.specs.Sizing.{sizing_at}
-use Rattle.frz_commands_atlas.proofs.Sized.{is_size, own_stop, stopped_at}
+use Rattle.frz_commands_atlas.proofs.SizeEnds.{is_size, own_stop, stopped_at}
 use Rattle.frz_commands_atlas.proofs.sizing.size_named.Goals as goal
 
 pub returns-in-Ok : goal.returns-in-Ok

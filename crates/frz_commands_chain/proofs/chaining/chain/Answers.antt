@@ -7,7 +7,7 @@ use Rattle.frz_prelude.proofs.Lemmas.{calls_store, differ, not_taken, same_name,
 use Rattle.frz_commands_chain.specs.Chaining.{chaining_at, is_named_twice}
 use Rattle.frz_commands_chain.specs.declared.reading.BothRead.{BothRead}
 use Rattle.frz_commands_chain.proofs.ChainAt.{at_stage, own_stop, stopped_at}
-use Rattle.frz_commands_chain.proofs.Chains.{stages}
+use Rattle.frz_commands_chain.proofs.Chains.{chain_stages}
 use Rattle.frz_commands_chain.proofs.chaining.chain.Goals as goal
 
 abbrev by_names : List ℕ × List ℕ × List ℕ → Job
@@ -52,7 +52,7 @@ returns-clause-replies g c =
     (differ (chaining_at rules back table) _ (sym c.is_repeated.ensures ∙ c.if-is_repeated.false)
     (through_reply _ (chaining_at rules back table) _ _ _ _ _ _ _ e.quiet e.cause e.later
     (at_stage both.read.text.items both.read.rules (loaded_back both.back) rules back table)
-    (λ files left input out after agrees. stages rules back table both files left _ _ _ e.read
+    (λ files left input out after agrees. chain_stages rules back table both files left _ _ _ e.read
     agrees) c.chain_by.ensures))
 
 pub returns-clause-store_unused : goal.returns-clause-store_unused

@@ -10,7 +10,7 @@ use Rattle.frz_chain.specs.Chains.{judgement}
 use Rattle.frz_chain.specs.declared.checking.ChainVerdict.{ChainVerdict}
 use Rattle.frz_commands_chain.specs.CheckMeans.{checking_pair}
 use Rattle.frz_commands_chain.specs.Stops.{stop_of_chain}
-use Rattle.frz_commands_chain.proofs.Stopped.{chain_cause}
+use Rattle.frz_commands_chain.proofs.ChainStops.{chain_cause}
 use Rattle.frz_commands_chain.proofs.Pairs.{judged_so, own_refusal, own_verdict, stopped_so}
 use Rattle.frz_commands_chain.proofs.checking.chaincheck.Goals as goal
 

@@ -2,7 +2,7 @@ use Rattle.std.proofs.Common.{arith}
 use Rattle.frz_answer.proofs.Lemmas.{gave_up, wrote_next}
 use Rattle.frz_fide.proofs.Lemmas.{legal_at}
 use Rattle.frz_commands_chess.proofs.Joining.{more_joined, cut_joined, all_joined}
-use Rattle.frz_commands_chess.proofs.Listed.{more_steps}
+use Rattle.frz_commands_chess.proofs.MovesListed.{more_steps}
 use Rattle.frz_commands_chess.proofs.listing.write_line.Goals as goal
 
 pub write_move-requires-clause-legal : goal.write_move-requires-clause-legal

@@ -6,7 +6,7 @@ use Rattle.frz_answer.proofs.Lemmas.{as_given}
 use Rattle.frz_prelude.specs.Positions.{on_position}
 use Rattle.frz_prelude.proofs.Lemmas.{at_position, no_position, not_taken, replied, taken}
 use Rattle.frz_commands_chess.specs.Moving.{moving}
-use Rattle.frz_commands_chess.proofs.Moved.{own_reply}
+use Rattle.frz_commands_chess.proofs.MoveOnce.{own_reply}
 use Rattle.frz_commands_chess.proofs.moving.make_move.Goals as goal
 
 abbrev by_words : List ℕ × List ℕ → Job

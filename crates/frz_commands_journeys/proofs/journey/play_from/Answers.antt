@@ -7,7 +7,7 @@ use Rattle.frz_fen.specs.declared.fault.FenFault.{FenFault}
 use Rattle.frz_prelude.specs.Positions.{on_position}
 use Rattle.frz_prelude.proofs.Lemmas.{as_read}
 use Rattle.frz_commands_journeys.specs.Journeying.{journeying_at}
-use Rattle.frz_commands_journeys.proofs.Heard.{takes_none}
+use Rattle.frz_commands_journeys.proofs.InputHeard.{takes_none}
 use Rattle.frz_commands_journeys.proofs.journey.play_from.Goals as goal
 
 pub returns-in-Ok-clause-ran : goal.returns-in-Ok-clause-ran

@@ -2,7 +2,7 @@ use Rattle.std.specs.Prelude.{map}
 use Rattle.std.specs.String.{string_bytes}
 use Rattle.frz_store.specs.Told.{store_of, source_of}
 use Rattle.frz_commands_journeys.specs.Journeying.{input_with}
-use Rattle.frz_commands_journeys.proofs.Named.{few_named, ran_named, ran_refused}
+use Rattle.frz_commands_journeys.proofs.WordsNamed.{few_named, ran_named, ran_refused}
 use Rattle.frz_commands_journeys.proofs.journey.run_journey.Goals as goal
 
 pub play_for-requires-clause-apart : goal.play_for-requires-clause-apart

@@ -3,7 +3,7 @@ use Rattle.frz_commands_line.specs.Later.{from_opening}
 use Rattle.frz_commands_line.specs.Lining.{lining_at}
 use Rattle.frz_commands_line.proofs.Later.{any_later, later_before}
 use Rattle.frz_commands_line.proofs.LineOpened.{line_comes, lined_by, some_at}
-use Rattle.frz_commands_line.proofs.Opened.{opened_ran, opens_still, refused_ran}
+use Rattle.frz_commands_line.proofs.TableOpened.{opened_ran, opens_still, refused_ran}
 use Rattle.frz_commands_line.proofs.line.line_at.Goals as goal
 
 pub line_in-requires-clause-opens : goal.line_in-requires-clause-opens

@@ -2,7 +2,7 @@ use Rattle.std.proofs.Common.{refl}
 use Rattle.frz_commands_line.specs.Later.{from_opening}
 use Rattle.frz_commands_line.specs.Playing.{playing_at}
 use Rattle.frz_commands_line.proofs.Later.{any_later, later_before}
-use Rattle.frz_commands_line.proofs.Opened.{opened_ran, opens_still, refused_ran}
+use Rattle.frz_commands_line.proofs.TableOpened.{opened_ran, opens_still, refused_ran}
 use Rattle.frz_commands_line.proofs.SessionOpened.{played_by, session_comes, some_at}
 use Rattle.frz_commands_line.proofs.play.play_at.Goals as goal
 

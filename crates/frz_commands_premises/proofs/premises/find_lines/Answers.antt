@@ -3,7 +3,7 @@ use Rattle.std.specs.Prelude.{map}
 use Rattle.std.specs.String.{string_bytes}
 use Rattle.frz_rules.proofs.Lemmas.{text_sound}
 use Rattle.frz_store.specs.Told.{store_of}
-use Rattle.frz_commands_premises.proofs.Found.{found_so, memory_wanted}
+use Rattle.frz_commands_premises.proofs.TablesFound.{found_so, memory_wanted}
 use Rattle.frz_commands_premises.proofs.premises.find_lines.Goals as goal
 
 pub new-requires : goal.new-requires

@@ -6,7 +6,7 @@ use Rattle.frz_answer.proofs.Lemmas.{quiet_store}
 use Rattle.frz_prelude.specs.declared.rules_at.RulesText.{RulesText}
 use Rattle.frz_prelude.proofs.Lemmas.{ended, may_stop}
 use Rattle.frz_commands_premises.specs.Premising.{premising_at}
-use Rattle.frz_commands_premises.proofs.Ended.{lines_writable, own_stop, refused_so, small_place, stopped_at, told_so}
+use Rattle.frz_commands_premises.proofs.PremisesEnd.{lines_writable, own_stop, refused_so, small_place, stopped_at, told_so}
 use Rattle.frz_commands_premises.proofs.premises.tell_named.Goals as goal
 
 pub returns-in-Err : goal.returns-in-Err

@@ -10,7 +10,7 @@ use Rattle.frz_prelude.proofs.Lemmas.{differ, not_taken, same_name, stopped_repl
 use Rattle.frz_commands_table.specs.Building.{calls_by, steps_by}
 use Rattle.frz_commands_table.specs.BuildMeaning.{building_at}
 use Rattle.frz_commands_table.proofs.BuildAsked.{found_rules, own_stop, stopped_at}
-use Rattle.frz_commands_table.proofs.Built.{is_read_at, at_stage}
+use Rattle.frz_commands_table.proofs.BuildStages.{is_read_at, at_stage}
 use Rattle.frz_commands_table.proofs.building.build.Goals as goal
 
 abbrev by_names : List ℕ × List ℕ → Job

@@ -9,7 +9,7 @@ use Rattle.frz_prelude.specs.Replies.{built_line}
 use Rattle.frz_prelude.specs.declared.reply.Reply.TheVariants.{Built}
 use Rattle.frz_prelude.proofs.Lemmas.{not_written_reply, wrote_reply}
 use Rattle.frz_commands_table.specs.Building.{building_by}
-use Rattle.frz_commands_table.proofs.Built.{file_as}
+use Rattle.frz_commands_table.proofs.BuildStages.{file_as}
 use Rattle.frz_commands_table.proofs.building.build_by.Goals as goal
 
 pub returns-in_err-size : goal.returns-in_err-size

@@ -4,7 +4,7 @@ use Rattle.frz_prelude.specs.Stops.{stop_of_table}
 use Rattle.frz_prelude.proofs.Lemmas.{not_taken, said_reply, stop_own, stopped_reply, table_cause, taken}
 use Rattle.frz_commands_table.specs.declared.judging.Judged.{Judged}
 use Rattle.frz_commands_table.specs.CheckMeans.{checking_at}
-use Rattle.frz_commands_table.proofs.Checked.{judged_so, own_verdict, stopped_so}
+use Rattle.frz_commands_table.proofs.CheckEnds.{judged_so, own_verdict, stopped_so}
 use Rattle.frz_commands_table.proofs.checking.check.Goals as goal
 
 pub returns-in_err-table-clause-replies : goal.returns-in_err-table-clause-replies

@@ -2,7 +2,7 @@ use Rattle.std.proofs.Common.{◌≡◌, sym, subst, ◌∙◌, ℕ, List}
 use Rattle.frz_board.specs.declared.man.Colour.TheVariants.{White, Black}
 use Rattle.frz_game.specs.Bounds.{IsTableOf}
 use Rattle.frz_check.specs.declared.verdict.Verdict.TheVariants.{Wrong, Exact}
-use Rattle.frz_commands_table.proofs.Sampled.{either_table}
+use Rattle.frz_commands_table.proofs.SampleOnce.{either_table}
 use Rattle.frz_commands_table.proofs.sample.checked_tables.Goals as goal
 
 -- both tables are exact, so the checker finds no wrong entry

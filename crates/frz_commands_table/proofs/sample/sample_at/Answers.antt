@@ -4,7 +4,7 @@ use Rattle.frz_answer.specs.World.{world}
 use Rattle.frz_answer.proofs.Lemmas.{as_given, quiet_same, stopped}
 use Rattle.frz_rules.specs.Text.{rules_of}
 use Rattle.frz_commands_table.specs.Sampling.{sampling}
-use Rattle.frz_commands_table.proofs.Sampled.{never_bad, size_is, some_at}
+use Rattle.frz_commands_table.proofs.SampleOnce.{never_bad, size_is, some_at}
 use Rattle.frz_commands_table.proofs.sample.sample_at.Goals as goal
 
 pub sample_by-requires : goal.sample_by-requires

@@ -7,7 +7,7 @@ use Rattle.frz_answer.proofs.Lemmas.{as_given, fine_steps, quiet_same, quiet_ste
 use Rattle.frz_board.specs.declared.man.Colour.TheVariants.{White, Black}
 use Rattle.frz_sets.specs.Sets.{size_of}
 use Rattle.frz_commands_table.specs.Sampling.{sampling, sample_lines}
-use Rattle.frz_commands_table.proofs.Sampled.{some_sampled, table_as}
+use Rattle.frz_commands_table.proofs.SampleOnce.{some_sampled, table_as}
 use Rattle.frz_commands_table.proofs.sample.sample_by.Goals as goal
 
 pub returns-in_default : goal.returns-in_default

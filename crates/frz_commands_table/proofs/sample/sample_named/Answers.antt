@@ -4,7 +4,7 @@ use Rattle.frz_answer.specs.World.{world}
 use Rattle.frz_answer.proofs.Lemmas.{as_given, fine_same, quiet_same, said}
 use Rattle.frz_commands_table.specs.Sampling.{sampling_named}
 use Rattle.frz_commands_table.specs.declared.sample.TheConstants.{LAST_SQUARE}
-use Rattle.frz_commands_table.proofs.Sampled.{as_named}
+use Rattle.frz_commands_table.proofs.SampleOnce.{as_named}
 use Rattle.frz_commands_table.proofs.sample.sample_named.Goals as goal
 
 pub returns-in-Some : goal.returns-in-Some

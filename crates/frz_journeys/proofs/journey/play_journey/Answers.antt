@@ -7,7 +7,7 @@ use Rattle.frz_sets.specs.Views.{GroupLine}
 use Rattle.frz_store.specs.Told.{source_of, sink_of}
 use Rattle.frz_chain.proofs.Lemmas.{number_below}
 use Rattle.frz_backs.specs.Loaded.{link_loaded}
-use Rattle.frz_journeys.proofs.Starting.{all_told, never_outside, no_member, nothing_told}
+use Rattle.frz_journeys.proofs.JourneyStarts.{all_told, never_outside, no_member, nothing_told}
 use Rattle.frz_journeys.proofs.journey.play_journey.Goals as goal
 
 pub returns-in_default-clause-played : goal.returns-in_default-clause-played

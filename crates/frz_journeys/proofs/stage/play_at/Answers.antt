@@ -3,7 +3,7 @@ use Rattle.frz_backs.specs.Links.{backs_of}
 use Rattle.frz_backs.specs.Loaded.{link_loaded}
 use Rattle.frz_ways.specs.PlayLoaded.{PlaysLoaded}
 use Rattle.frz_journeys.specs.Tables.{codes_of}
-use Rattle.frz_journeys.proofs.Moved.{moved_leaning, moved_plain}
+use Rattle.frz_journeys.proofs.WayByValues.{moved_leaning, moved_plain}
 use Rattle.frz_journeys.proofs.stage.play_at.Goals as goal
 
 pub returns-in-Atlas-clause-played : goal.returns-in-Atlas-clause-played

@@ -10,7 +10,7 @@ use Rattle.frz_ways.specs.PlayLoaded.{PlaysLoaded}
 use Rattle.frz_ways.proofs.Lemmas.{turn_after}
 use Rattle.frz_journeys.specs.Tables.{codes_of}
 use Rattle.frz_journeys.proofs.Leaving.{left_legally}
-use Rattle.frz_journeys.proofs.Moved.{moved_lent}
+use Rattle.frz_journeys.proofs.WayByValues.{moved_lent}
 use Rattle.frz_journeys.proofs.stage.play_by.Goals as goal
 
 pub play_loaded-requires-clause-sound : goal.play_loaded-requires-clause-sound

@@ -8,7 +8,7 @@ use Rattle.frz_ways.proofs.Lemmas.{wrote_after}
 use Rattle.frz_journeys.specs.JourneyTexts.{place_line}
 use Rattle.frz_journeys.specs.Onward.{LeftLegally}
 use Rattle.frz_journeys.specs.Tables.{arena_over, codes_of}
-use Rattle.frz_journeys.proofs.Unwritten.{by_output, line_failed}
+use Rattle.frz_journeys.proofs.StageWritten.{by_output, line_failed}
 use Rattle.frz_journeys.proofs.stage.play_stage.Goals as goal
 
 pub returns-in_err-write_place-clause-played : goal.returns-in_err-write_place-clause-played

@@ -2,7 +2,7 @@ use Rattle.std.proofs.Common.{arith}
 use Rattle.frz_store.specs.Told.{sink_of}
 use Rattle.frz_reasons.proofs.Lengths.{goes_less}
 use Rattle.frz_reasons.proofs.OneWay.{way_behind}
-use Rattle.frz_reasons.proofs.Played.{played_arm, plays_on}
+use Rattle.frz_reasons.proofs.MovePlayed.{played_arm, plays_on}
 use Rattle.frz_reasons.proofs.Telling.{at_start, goes_so_far, told_failed, told_out, told_over}
 use Rattle.frz_reasons.proofs.failing_way.write_failing_way.Goals as goal
 

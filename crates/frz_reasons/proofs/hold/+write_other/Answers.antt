@@ -1,6 +1,6 @@
 use Rattle.std.proofs.Common.{sym, ◌∙◌}
 use Rattle.frz_answer.proofs.Lemmas.{failed_first, gave_up, wrote_next}
-use Rattle.frz_reasons.proofs.Denied.{other_skipped, other_told, taken_apart}
+use Rattle.frz_reasons.proofs.DenialsTold.{other_skipped, other_told, taken_apart}
 use Rattle.frz_reasons.proofs.hold.+write_other.Goals as goal
 
 pub returns-then-not-denies : goal.returns-then-not-denies

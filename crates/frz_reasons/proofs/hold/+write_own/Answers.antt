@@ -1,7 +1,7 @@
 use Rattle.std.proofs.Common.{◌<◌, ◌-◌, length, take, drop, arith}
 use Rattle.std.proofs.lemmas.List.{length-take}
 use Rattle.frz_store.specs.Told.{sink_of}
-use Rattle.frz_reasons.proofs.Denied.{own_failed, own_told, rest_within, taken_apart}
+use Rattle.frz_reasons.proofs.DenialsTold.{own_failed, own_told, rest_within, taken_apart}
 use Rattle.frz_reasons.proofs.hold.+write_own.Goals as goal
 
 pub write_own-requires-in-Ok : goal.write_own-requires-in-Ok

@@ -1,5 +1,5 @@
 use Rattle.std.proofs.Common.{ℕ, refl, slice_index}
-use Rattle.frz_reasons.proofs.Spoiled.{Laws, fails_by}
+use Rattle.frz_reasons.proofs.MovesSpoiled.{Laws, fails_by}
 use Rattle.frz_reasons.proofs.laws.failures_are_spoiled.Goals as goal
 
 pub returns : goal.returns

@@ -2,7 +2,7 @@ use Rattle.std.proofs.Common.{◌∙◌, [], refl, sym, subst, ap, get_or}
 use Rattle.frz_game.specs.declared.wrong.Wrong.{Wrong}
 use Rattle.frz_reasons.specs.declared.reason.Reason.TheVariants as reasons
 use Rattle.frz_reasons.specs.FailingWays.{FailsFrom, wrong}
-use Rattle.frz_reasons.proofs.Turned.{mated_there, played_as, renounced_as}
+use Rattle.frz_reasons.proofs.TurnFound.{mated_there, played_as, renounced_as}
 use Rattle.frz_reasons.proofs.turn.take_turn.Goals as goal
 
 pub returns-in-Err-clause-turn : goal.returns-in-Err-clause-turn

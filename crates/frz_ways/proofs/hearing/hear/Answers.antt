@@ -1,7 +1,7 @@
 use Rattle.std.proofs.Common.{refl, sym, ap, ◌∙◌}
 use Rattle.frz_store.specs.Told.{source_of, sink_of}
 use Rattle.frz_ways.specs.Reading.{place_said}
-use Rattle.frz_ways.proofs.Heard.{hears_start, hears_stop, hears_fault, hears_reply, hears_refused, hears_failed, hears_fails, heard_as}
+use Rattle.frz_ways.proofs.LinesHeard.{hears_start, hears_stop, hears_fault, hears_reply, hears_refused, hears_failed, hears_fails, heard_as}
 use Rattle.frz_ways.proofs.hearing.hear.Goals as goal
 
 pub lines-init : goal.lines-init

@@ -1,6 +1,6 @@
 use Rattle.std.proofs.Common.{◌≡◌}
 use Rattle.frz_store.specs.Told.{source_of, sink_of}
-use Rattle.frz_ways.proofs.Heard.{HearsOn}
+use Rattle.frz_ways.proofs.LinesHeard.{HearsOn}
 use Rattle.frz_ways.proofs.hearing.hear.Given as goal
 
 abbrev pub invariant-lines : goal.invariant-lines

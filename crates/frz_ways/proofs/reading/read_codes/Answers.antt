@@ -1,6 +1,6 @@
 use Rattle.std.proofs.Common.{arith}
 use Rattle.std.proofs.lemmas.Grind.{common_steps}
-use Rattle.frz_ways.proofs.Gathered.{codes_next}
+use Rattle.frz_ways.proofs.CodesGathered.{codes_next}
 use Rattle.frz_ways.proofs.reading.read_codes.Goals as goal
 
 pub loop-arm-preserved : goal.loop-arm-preserved

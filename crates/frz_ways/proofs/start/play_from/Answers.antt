@@ -13,13 +13,13 @@ use Rattle.frz_game.proofs.Lemmas.{finite}
 use Rattle.frz_index.specs.Members.{Member, Num}
 use Rattle.frz_answer.specs.World.{spent_by}
 use Rattle.frz_ways.specs.Kept.{told_codes}
-use Rattle.frz_ways.proofs.Kept.{by_table, code_kept, may_before}
+use Rattle.frz_ways.proofs.CodesKept.{by_table, code_kept, may_before}
 use Rattle.frz_ways.proofs.Spending.{code_read}
 use Rattle.frz_table.specs.Tables.{table_size}
 use Rattle.frz_ways.specs.PlayWay.{Plays}
 use Rattle.frz_ways.proofs.Alternating.{turn_after}
-use Rattle.frz_ways.proofs.Finished.{answer_cause, answer_input, answer_kind, same_fault}
-use Rattle.frz_ways.proofs.Starting.{no_member, nothing_told, start_inside, start_unread, way_told}
+use Rattle.frz_ways.proofs.WayFinished.{answer_cause, answer_input, answer_kind, same_fault}
+use Rattle.frz_ways.proofs.WayStarts.{no_member, nothing_told, start_inside, start_unread, way_told}
 use Rattle.frz_ways.proofs.start.play_from.Goals as goal
 
 pub returns-in_default-clause-played : goal.returns-in_default-clause-played

@@ -6,7 +6,7 @@ use Rattle.frz_ways.specs.declared.playing.Turn.{Turn}
 use Rattle.frz_ways.specs.declared.playing.Turn.TheVariants.{On}
 use Rattle.frz_ways.specs.Turns.{TurnsTo}
 use Rattle.frz_ways.proofs.Counting.{few_at_start, few_on, left_on, quiet_here}
-use Rattle.frz_ways.proofs.Kept.{may_before}
+use Rattle.frz_ways.proofs.CodesKept.{may_before}
 use Rattle.frz_ways.proofs.WaySoFar.{at_start, next_far, out_far, over_far, fault_far}
 use Rattle.frz_ways.proofs.Spending.{at_one}
 use Rattle.frz_ways.proofs.way.play_way.Goals as goal

@@ -4,7 +4,7 @@ use Rattle.frz_ways.proofs.PlyDues.{has_move}
 use Rattle.frz_store.specs.Told.{source_of, sink_of}
 use Rattle.frz_ways.proofs.TurnAnswers.{played_kind, played_settled, settled_cause, settled_placed, still_ended, still_no_more, store_kind}
 use Rattle.frz_ways.proofs.Turning.{cut_is_line, turn_next}
-use Rattle.frz_ways.proofs.Written.{stopped_by, opening_wrote, turn_wrote}
+use Rattle.frz_ways.proofs.TurnWritten.{stopped_by, opening_wrote, turn_wrote}
 use Rattle.frz_ways.proofs.way.turn.Goals as goal
 
 pub returns-in_err-due-clause-wrote : goal.returns-in_err-due-clause-wrote

@@ -1,4 +1,4 @@
-use Rattle.frz_worked.proofs.Unconditional.{rook_unconditional, fortress_unconditional, pawn_unconditional, pawn_back_unconditional, corner_unconditional, corner_back_unconditional, blocked_unconditional, wall_unconditional}
+use Rattle.frz_worked.proofs.UnconditionalTexts.{rook_unconditional, fortress_unconditional, pawn_unconditional, pawn_back_unconditional, corner_unconditional, corner_back_unconditional, blocked_unconditional, wall_unconditional}
 use Rattle.frz_worked.proofs.laws.unconditional_texts.Goals as goal
 
 pub returns-clause-rook : goal.returns-clause-rook

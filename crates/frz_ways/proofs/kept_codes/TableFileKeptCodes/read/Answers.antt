@@ -1,6 +1,6 @@
 use Rattle.frz_table.specs.Tables.{table_size}
 use Rattle.frz_ways.specs.Kept.{told_codes}
-use Rattle.frz_ways.proofs.Gathered.{gather_read}
+use Rattle.frz_ways.proofs.CodesGathered.{gather_read}
 use Rattle.frz_ways.proofs.kept_codes.TableFileKeptCodes.read.Goals as goal
 
 pub returns-clause-codes : goal.returns-clause-codes

@@ -12,22 +12,24 @@ abbrev pub Picked : {X Y : Type 0} → (X → Option Y) → List X → Y → Typ
 Picked {X} f xs y = (x : X) × Contains xs x × (f x ≡ Some y)
 
 module _ {X Y : Type 0} (f : X → Option Y) where
-  taken : (x : X) (xs : List X) (y : Y) → f x ≡ Some y → filter_map f (x ∷ xs) ≡ y ∷ filter_map f xs
-  taken x xs y e = ap (λ o. cons_option o (filter_map f xs)) e
+  picked_is_kept : (x : X) (xs : List X) (y : Y) → f x ≡ Some y
+      → filter_map f (x ∷ xs) ≡ y ∷ filter_map f xs
+  picked_is_kept x xs y e = ap (λ o. cons_option o (filter_map f xs)) e
 
-  left : (x : X) (xs : List X) → f x ≡ None → filter_map f (x ∷ xs) ≡ filter_map f xs
-  left x xs e = ap (λ o. cons_option o (filter_map f xs)) e
+  unpicked_is_dropped : (x : X) (xs : List X) → f x ≡ None → filter_map f (x ∷ xs) ≡ filter_map f xs
+  unpicked_is_dropped x xs e = ap (λ o. cons_option o (filter_map f xs)) e
 
   pub picked_from : (xs : List X) (y : Y) → Contains (filter_map f xs) y → Picked f xs y
   picked_from [] y h = absurd (none_in_empty y h)
   picked_from (x ∷ xs) y h = elim (cases_Option (f x)) [
     | inr s ↦ elim (in_cases s.0 (filter_map f xs) y
-        (subst (λ ys. Contains ys y) (taken x xs s.0 s.1) h)) [
+        (subst (λ ys. Contains ys y) (picked_is_kept x xs s.0 s.1) h)) [
           | inl e ↦ (x, (zero, omega arith, refl), s.1 ∙ ap Some e)
           | inr i ↦ let r = picked_from xs y i in
               (r.0, Contains-append_right (x ∷ []) xs r.0 r.1, r.2)
         ]
-    | inl n ↦ let r = picked_from xs y (subst (λ ys. Contains ys y) (left x xs n) h) in
+    | inl n ↦ let r = picked_from xs y
+            (subst (λ ys. Contains ys y) (unpicked_is_dropped x xs n) h) in
         (r.0, Contains-append_right (x ∷ []) xs r.0 r.1, r.2)
   ]
 
@@ -35,12 +37,12 @@ module _ {X Y : Type 0} (f : X → Option Y) where
       → Contains (filter_map f xs) y
   picked_in [] x y h e = absurd (none_in_empty x h)
   picked_in (z ∷ xs) x y h e = elim (in_cases z xs x h) [
-    | inl s ↦ subst (λ ys. Contains ys y) (sym (taken z xs y (ap f s ∙ e)))
+    | inl s ↦ subst (λ ys. Contains ys y) (sym (picked_is_kept z xs y (ap f s ∙ e)))
         (zero, omega arith, refl)
     | inr i ↦ let r = picked_in xs x y i e in elim (cases_Option (f z)) [
-      | inr s ↦ subst (λ ys. Contains ys y) (sym (taken z xs s.0 s.1))
+      | inr s ↦ subst (λ ys. Contains ys y) (sym (picked_is_kept z xs s.0 s.1))
           (Contains-append_right (s.0 ∷ []) (filter_map f xs) y r)
-      | inl n ↦ subst (λ ys. Contains ys y) (sym (left z xs n)) r
+      | inl n ↦ subst (λ ys. Contains ys y) (sym (unpicked_is_dropped z xs n)) r
     ]
   ]
 
@@ -64,12 +66,12 @@ pub one_place : {X Y : Type 0} (f : X → Option Y) (R : X → X → Type 0) (S 
 one_place f R S [] h turn from k l y z a b s = absurd (none_in_empty y (at_place [] k y a))
 one_place {X} {Y} f R S (x ∷ xs) h turn from k l y z a b s = elim (cases_Option (f x)) [
   | inl n ↦ one_place f R S xs h.1 turn from k l y z
-      (subst (λ ys. slice_get ys k ≡ Some y) (left f x xs n) a)
-      (subst (λ ys. slice_get ys l ≡ Some z) (left f x xs n) b) s
+      (subst (λ ys. slice_get ys k ≡ Some y) (unpicked_is_dropped f x xs n) a)
+      (subst (λ ys. slice_get ys l ≡ Some z) (unpicked_is_dropped f x xs n) b) s
   | inr t ↦
       at t.0 t.1 (λ k l u v. one_place f R S xs h.1 turn from k l y z u v s) k l
-      (subst (λ ys. slice_get ys k ≡ Some y) (taken f x xs t.0 t.1) a)
-      (subst (λ ys. slice_get ys l ≡ Some z) (taken f x xs t.0 t.1) b)
+      (subst (λ ys. slice_get ys k ≡ Some y) (picked_is_kept f x xs t.0 t.1) a)
+      (subst (λ ys. slice_get ys l ≡ Some z) (picked_is_kept f x xs t.0 t.1) b)
 ]
   where
     clash : (v w : Y) → f x ≡ Some v → S v w → Contains (filter_map f xs) w → ⊥

@@ -21,7 +21,7 @@ use Rattle.frz_reasons.specs.FailingWays.{IsPlayedAt, FailsFrom}
 use Rattle.frz_reasons.specs.FailuresTell.{FailsAt, code_behind, mated, renounced, moves, waits}
 use Rattle.frz_reasons.specs.Places.{is_one, IsOneAt}
 use Rattle.frz_reasons.proofs.Codes.{other_side}
-use Rattle.frz_reasons.proofs.Played.{is_one as as_candidate}
+use Rattle.frz_reasons.proofs.MovePlayed.{is_one as as_candidate}
 
 -- the code at the place of an arm
 code_there : (f : Arm Step ℕ Value → ℕ) (arms : List (Arm Step ℕ Value)) (k : ℕ)

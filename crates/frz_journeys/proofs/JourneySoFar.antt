@@ -40,7 +40,7 @@ use Rattle.frz_journeys.specs.JourneyTexts.{journey_text, place_line}
 use Rattle.frz_journeys.specs.Onward.{Finds, GoesOnward, left_to}
 use Rattle.frz_journeys.specs.Playing.{JourneyPlayed, PlaysJourney, numbers_of, turns_in}
 use Rattle.frz_journeys.specs.Tables.{arena_over, codes_of, next_of}
-use Rattle.frz_journeys.proofs.Finished.{IsNoExit, end_here, exit_before, finishes_alone, finishes_later, first_there, input_short, later_there, no_table}
+use Rattle.frz_journeys.proofs.JourneyFinished.{IsNoExit, end_here, exit_before, finishes_alone, finishes_later, first_there, input_short, later_there, no_table}
 use Rattle.frz_journeys.proofs.Fronts.{Follows, later_front}
 use Rattle.frz_journeys.proofs.Leaving.{AreGames, left_behind}
 

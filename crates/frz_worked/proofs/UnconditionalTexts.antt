@@ -31,38 +31,38 @@ read_so text (Ok rules) e pass = record {
 read_so text (Err fault) e pass = absurd (cc)
 
 -- a text that passes is unconditional
-unconditional : (text : List ℕ) → text_passes text ≡ true → IsUnconditional text
+passing_is_unconditional : (text : List ℕ) → text_passes text ≡ true → IsUnconditional text
 unfolding text_passes
-unconditional text pass = read_so text (rules_of text) refl pass
+passing_is_unconditional text pass = read_so text (rules_of text) refl pass
 
 pub rook_unconditional : IsUnconditional rook_text
 unfolding text_passes rook_text
-rook_unconditional = unconditional rook_text refl
+rook_unconditional = passing_is_unconditional rook_text refl
 
 pub fortress_unconditional : IsUnconditional fortress_text
 unfolding text_passes fortress_text
-fortress_unconditional = unconditional fortress_text refl
+fortress_unconditional = passing_is_unconditional fortress_text refl
 
 pub pawn_unconditional : IsUnconditional pawn_text
 unfolding text_passes pawn_text
-pawn_unconditional = unconditional pawn_text refl
+pawn_unconditional = passing_is_unconditional pawn_text refl
 
 pub pawn_back_unconditional : IsUnconditional pawn_back_text
 unfolding text_passes pawn_back_text
-pawn_back_unconditional = unconditional pawn_back_text refl
+pawn_back_unconditional = passing_is_unconditional pawn_back_text refl
 
 pub corner_unconditional : IsUnconditional corner_text
 unfolding text_passes corner_text
-corner_unconditional = unconditional corner_text refl
+corner_unconditional = passing_is_unconditional corner_text refl
 
 pub corner_back_unconditional : IsUnconditional corner_back_text
 unfolding text_passes corner_back_text
-corner_back_unconditional = unconditional corner_back_text refl
+corner_back_unconditional = passing_is_unconditional corner_back_text refl
 
 pub blocked_unconditional : IsUnconditional blocked_text
 unfolding text_passes blocked_text
-blocked_unconditional = unconditional blocked_text refl
+blocked_unconditional = passing_is_unconditional blocked_text refl
 
 pub wall_unconditional : IsUnconditional wall_text
 unfolding text_passes wall_text
-wall_unconditional = unconditional wall_text refl
+wall_unconditional = passing_is_unconditional wall_text refl

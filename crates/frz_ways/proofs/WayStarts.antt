@@ -20,7 +20,7 @@ use Rattle.frz_game.specs.Numbers.{number_of, numbers_by}
 use Rattle.frz_index.specs.Members.{Member, Num}
 use Rattle.frz_ways.specs.Faults.{fault_of}
 use Rattle.frz_ways.specs.Costs.{way_numbers, Spends, SpendsAt}
-use Rattle.frz_ways.proofs.Gathered.{any_read, start_read}
+use Rattle.frz_ways.proofs.CodesGathered.{any_read, start_read}
 use Rattle.frz_ways.proofs.Spending.{read_alone, read_first}
 use Rattle.frz_ways.specs.Kept.{MayRead}
 use Rattle.frz_ways.specs.declared.end.LineFault.TheVariants as faults
@@ -39,11 +39,11 @@ use Rattle.frz_ways.specs.Reading.{opened}
 use Rattle.frz_ways.specs.Ways.{GoesOn}
 use Rattle.frz_ways.specs.SessionTexts.{start_line}
 use Rattle.frz_ways.specs.WayTexts.{plies_text, way_text}
-use Rattle.frz_ways.proofs.Faulted.{IsStoreFault, short_of, short_text}
-use Rattle.frz_ways.proofs.Finished.{ended_wrote}
+use Rattle.frz_ways.proofs.TurnFaulted.{IsStoreFault, short_of, short_text}
+use Rattle.frz_ways.proofs.WayFinished.{ended_wrote}
 use Rattle.frz_ways.proofs.Goings.{way_front}
 use Rattle.frz_ways.proofs.Taking.{held_whole, took_none, some_rest}
-use Rattle.frz_ways.proofs.Written.{store_fault}
+use Rattle.frz_ways.proofs.TurnWritten.{store_fault}
 
 -- the number of a position is within the size of its set
 pub start_inside : (rules : RuleLines) (p : Board) {set : List GroupLine} {found : Option ℕ}

@@ -23,26 +23,27 @@ pub record Hears (opponent : Opponent) (whole took : List ℕ) (answer : Result 
   pub cause : InputCause answer source gone
 
 -- an input that stays as it is has not failed
-unfailed : (answer : Result WayEnd PlayFault) → IsAnswerOf answer Codes → (source : SourceTold)
+line_input_unfailed : (answer : Result WayEnd PlayFault) → IsAnswerOf answer Codes
+    → (source : SourceTold)
     → InputCause answer source source
-unfailed (Ok end) kind source = refl
-unfailed (Err (plays.Line fault)) kind source = refl
-unfailed (Err plays.Input) kind source = (let no : Codes ≡ Input = kind in cc)
-unfailed (Err (plays.Limit limit)) kind source = (let no : Codes ≡ Input = kind in cc)
+line_input_unfailed (Ok end) kind source = refl
+line_input_unfailed (Err (plays.Line fault)) kind source = refl
+line_input_unfailed (Err plays.Input) kind source = (let no : Codes ≡ Input = kind in cc)
+line_input_unfailed (Err (plays.Limit limit)) kind source = (let no : Codes ≡ Input = kind in cc)
 
 nothing_first : (took : List ℕ) → take (length took) [] ≡ took → took ≡ []
 nothing_first [] e = refl
 nothing_first (b ∷ took) e = cc
 
-pub hears : (opponent : Opponent) (told left other : SourceTold) (whole took : List ℕ)
+pub hears_what_it_took : (opponent : Opponent) (told left other : SourceTold) (whole took : List ℕ)
     (answer : Result WayEnd PlayFault) → (opponent ≡ Codes → told.left ≡ Some [])
     → IsAnswerOf answer opponent → TookBytes took told left → MayHold told whole
     → InputCause answer told left
     → Hears opponent whole took answer (input_with opponent told other)
     (input_with opponent left other)
-hears Input told left other whole took answer silent kind bytes may cause =
+hears_what_it_took Input told left other whole took answer silent kind bytes may cause =
     record { bytes = bytes; may = λ e. may; none = λ e. cc; cause = cause }
-hears Codes told left other whole took answer silent kind bytes may cause =
+hears_what_it_took Codes told left other whole took answer silent kind bytes may cause =
     let no_whole : [] ≡ whole =
     subst (λ (o : Option (List ℕ)). IfSome o (λ t. t ≡ whole)) (silent refl) may in
     let none : took ≡ [] =
@@ -54,7 +55,7 @@ hears Codes told left other whole took answer silent kind bytes may cause =
           (took_none other other refl);
       may = λ e. cc;
       none = λ e. (sym no_whole, none);
-      cause = unfailed answer kind other;
+      cause = line_input_unfailed answer kind other;
     }
 
 -- the input over which an answer is given: a session's own, and any for a line
@@ -93,10 +94,10 @@ module _ (whole took rest : List ℕ) (answer : Result WayEnd PlayFault) (source
     none_taken Codes h e = (h.none refl).1
     none_taken Input h e = cc
 
-pub untaken : (opponent : Opponent) (heard free : List ℕ) → takes_input opponent ≡ false
+pub untaken_is_free : (opponent : Opponent) (heard free : List ℕ) → takes_input opponent ≡ false
     → chosen opponent heard free ≡ free
-untaken Codes heard free e = refl
-untaken Input heard free e = cc
+untaken_is_free Codes heard free e = refl
+untaken_is_free Input heard free e = cc
 
 -- who takes no input plays a line
 pub takes_none : (opponent : Opponent) → takes_input opponent ≡ false → opponent ≡ Codes

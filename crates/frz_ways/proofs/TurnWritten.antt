@@ -24,9 +24,9 @@ use Rattle.frz_ways.specs.declared.due.Due.TheVariants as dues
 use Rattle.frz_ways.specs.declared.end.LineFault.TheVariants as faults
 use Rattle.frz_ways.specs.Faults.{fault_of}
 use Rattle.frz_ways.specs.Kept.{MayRead}
-use Rattle.frz_ways.proofs.Gathered.{any_read}
+use Rattle.frz_ways.proofs.CodesGathered.{any_read}
 use Rattle.frz_ways.specs.Texts.{arm_text}
-use Rattle.frz_ways.proofs.Chosen.{AsksForOne, FillsLocal}
+use Rattle.frz_ways.proofs.MoveChosen.{AsksForOne, FillsLocal}
 use Rattle.frz_ways.proofs.Stages.{stage_told}
 use Rattle.frz_ways.proofs.TextLines.{as_lines, ends_arm, ends_behind}
 use Rattle.frz_ways.specs.declared.way_end.WayEnd.{WayEnd}
@@ -47,7 +47,7 @@ use Rattle.frz_ways.specs.Hearing.{StaysEnded, Hears}
 use Rattle.frz_ways.specs.Ways.{EndOfWay}
 use Rattle.frz_ways.specs.SessionTexts.{refused_text, end_text}
 use Rattle.frz_ways.specs.Turns.{moved_text, opening, turn_of, by_codes, due_at, own_word, Answers, PlaysByCodes, PlaysPly, AfterHeard, Unread, IsPlayed, GoesBy, wrong_at}
-use Rattle.frz_ways.proofs.Faulted.{IsStoreFault, store_goes, opening_failed, opened_tail, fault_tail}
+use Rattle.frz_ways.proofs.TurnFaulted.{IsStoreFault, store_goes, opening_failed, opened_tail, fault_tail}
 use Rattle.frz_ways.proofs.Taking.{took_none}
 use Rattle.frz_ways.proofs.TurnsLeaveWays.{Stands, TailBy, turn_over, way_stage, over_tail, own_tail, reply_tail, stop_tail}
 

@@ -104,13 +104,13 @@ module _ (rules : List ℕ) (behind : List (List ℕ)) (apart : has_twice (rules
   abbrev lines : RuleLines
   lines = read.rules
 
-  accepted : rules_of text ≡ Ok lines
-  accepted = text_read.due.1
+  text_is_accepted : rules_of text ≡ Ok lines
+  text_is_accepted = text_read.due.1
 
   -- files that hold what the names may hold
-  these : (helds : List (Option (List ℕ))) → MayHoldAll mid.files behind helds
+  holds_these_tables : (helds : List (Option (List ℕ))) → MayHoldAll mid.files behind helds
       → Holds old.files rules behind (Some text) helds
-  these helds may =
+  holds_these_tables helds may =
       holds old.files rules behind apart (Some text) helds
       (subst (λ (x : Option (List ℕ)). MayHold old.files rules x) text_read.due.0
       (may_hold_there old.files text_read.files rules text_read.agrees))
@@ -145,7 +145,7 @@ module _ (rules : List ℕ) (behind : List (List ℕ)) (apart : has_twice (rules
         (subst (λ (l : List (Option (List ℕ))). WithinCosts (premises_costs (Some text) l)
         (spent start) (spent done)) (sym h.others)
         (subst (λ (x : Result RuleLines Refusal). WithinCosts (costs_by x (Some text) helds)
-        (spent start) (spent done)) (sym (ap or_fault accepted)) by_lines))
+        (spent start) (spent done)) (sym (ap or_fault text_is_accepted)) by_lines))
 
     reads_once : (premising_at rules behind).needs.reads ≡ Never → ⊥
     reads_once e = cc
@@ -169,14 +169,14 @@ module _ (rules : List ℕ) (behind : List (List ℕ)) (apart : has_twice (rules
         (fine_store old new input out before now (fine_after old mid new fine cause)) refl
         (subst (λ (l : List Line). Said Success (flat_map line_text l) end out after) f.told wrote)
         (λ files left agrees.
-        let h = these (all_held f.tables) f.may_all in
+        let h = holds_these_tables (all_held f.tables) f.may_all in
         record {
           found = at_files (all_held f.tables) h files left agrees;
           answer = found (record {
             text = text;
             there = h.here;
             lines = lines;
-            accepted = accepted;
+            accepted = text_is_accepted;
             tables = f.tables;
             behind_it = record { there = h.others; exact = judged_exact [] f.tables f.exact };
             told = refl;
@@ -188,7 +188,7 @@ module _ (rules : List ℕ) (behind : List (List ℕ)) (apart : has_twice (rules
     module _ (end : End) (after : SinkTold) (fault : AtlasFault)
         (r : FindsNone lines behind mid new before now fault) where
       abbrev h : Holds old.files rules behind (Some text) r.helds
-      h = these r.helds r.may_all
+      h = holds_these_tables r.helds r.may_all
 
       some : (files : Files) (left : List ℕ) → Agrees start files left
           → Begun (premising_at rules behind) files left start done
@@ -220,7 +220,7 @@ module _ (rules : List ℕ) (behind : List (List ℕ)) (apart : has_twice (rules
         found = at_files r.helds h files left agrees;
         answer = no_back (record {
           lines = lines;
-          accepted = held_rules (h.all.files rules) text lines h.here accepted;
+          accepted = held_rules (h.all.files rules) text lines h.here text_is_accepted;
           place = place;
           fault = f;
           refused = subst (λ (l : List (Option (List ℕ))). IsRefusedAt [] l place f)

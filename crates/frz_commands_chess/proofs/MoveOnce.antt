@@ -33,16 +33,16 @@ module _ (text : List ℕ) (p : Board) where
   has_text : Step → Bool
   has_text m = bytes_eq text (san_of p m) || bytes_eq text (unsigned p m)
 
-  passes : (m : Step) → IsSan p m text → has_text m ≡ true
+  san_has_text : (m : Step) → IsSan p m text → has_text m ≡ true
   unfolding has_text
-  passes m (inl e) = or_left (bytes_eq text (san_of p m)) (bytes_eq text (unsigned p m))
+  san_has_text m (inl e) = or_left (bytes_eq text (san_of p m)) (bytes_eq text (unsigned p m))
       ((bytes_eq-Decides text (san_of p m)).1 e)
-  passes m (inr e) = or_right (bytes_eq text (san_of p m)) (bytes_eq text (unsigned p m))
+  san_has_text m (inr e) = or_right (bytes_eq text (san_of p m)) (bytes_eq text (unsigned p m))
       ((bytes_eq-Decides text (unsigned p m)).1 e)
 
-  told : (m : Step) → has_text m ≡ true → IsSan p m text
+  text_is_san : (m : Step) → has_text m ≡ true → IsSan p m text
   unfolding has_text
-  told m h =
+  text_is_san m h =
       elim (or_cases (bytes_eq text (san_of p m)) (bytes_eq text (unsigned p m)) h) [
         | inl w ↦ inl ((bytes_eq-Decides text (san_of p m)).0 w)
         | inr w ↦ inr ((bytes_eq-Decides text (unsigned p m)).0 w)
@@ -56,14 +56,14 @@ module _ (text : List ℕ) (p : Board) where
         let legal = only_legal p found.1 (found.0, found.2, found.3) in (
           says Success (moved_lines found.1 (fen_text (after p found.1))) files,
           moved found.1 legal.0 legal.1
-              (told found.1 found.4) refl,
+              (text_is_san found.1 found.4) refl,
         )
     by_test false h = (
       says NoMove (codes "no move\n") files,
       no_move (λ m step legal t.
           let place = listed p m step legal in
           let yes = list_any_at has_text (legal_moves_of p) place.0 m place.1
-          (ap has_text place.2 ∙ passes m t) in
+          (ap has_text place.2 ∙ san_has_text m t) in
           cc) refl,
     )
 

@@ -17,7 +17,7 @@ use Rattle.frz_backs.specs.Loaded.{leans_as}
 use Rattle.frz_atlas.specs.Behind.{kind_by, kind_of}
 use Rattle.frz_atlas.specs.Loading.{LoadsOne, RefusesOne, WithinLoadingOne, opened_own}
 use Rattle.frz_atlas.specs.Opening.{IsOwnKind, MayOpenOwn, MayRefuseOwn}
-use Rattle.frz_atlas.proofs.Opened.{link_kept, within_one}
+use Rattle.frz_atlas.proofs.TableFound.{link_kept, within_one}
 use Rattle.frz_atlas.proofs.OwnKinds.{leans_by, opens_own}
 
 pub not_opened : (name : List ℕ) (old new : StoreTold) (fault : TableFault)

@@ -13,7 +13,7 @@ use Rattle.frz_ways.specs.declared.way_end.WayEnd.{WayEnd}
 use Rattle.frz_ways.specs.declared.way_end.WayEnd.TheVariants as ends
 use Rattle.frz_ways.specs.SessionFaults.{InputCause, StoreCause, WroteBy}
 use Rattle.frz_ways.specs.WayEnds.{IsAnswerOf, IsFinishOf, ended}
-use Rattle.frz_ways.proofs.Written.{same_wrote}
+use Rattle.frz_ways.proofs.TurnWritten.{same_wrote}
 
 -- the same fault, whatever was to be answered, behind what went well
 pub same_cause : (A B : Type 0) (fault : PlayFault) (old mid new : StoreTold) → StoreFine old mid

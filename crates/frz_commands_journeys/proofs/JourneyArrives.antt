@@ -34,10 +34,10 @@ use Rattle.frz_commands_line.proofs.Lemmas.{by_member}
 use Rattle.frz_commands_journeys.specs.Endings.{EndsJourney, HasNearPlace, IsNear}
 use Rattle.frz_commands_journeys.specs.JourneyOf.{leaning}
 use Rattle.frz_commands_journeys.specs.Journeying.{input_with, journeying_at}
-use Rattle.frz_commands_journeys.proofs.Heard.{hears}
-use Rattle.frz_commands_journeys.proofs.Loaded.{told_by_files}
+use Rattle.frz_commands_journeys.proofs.InputHeard.{hears_what_it_took}
+use Rattle.frz_commands_journeys.proofs.TablesLoaded.{told_by_files}
 use Rattle.frz_commands_journeys.proofs.Near.{near_there}
-use Rattle.frz_commands_journeys.proofs.Played.{JourneyThere, journey_ran}
+use Rattle.frz_commands_journeys.proofs.JourneyEnds.{JourneyThere, journey_ran}
 
 -- as many tables as were held
 many_held : (tables : List TableBytes) → length (all_held tables) ≡ length (map link_of tables)
@@ -114,7 +114,8 @@ module _ (there : JourneyThere) (player : Player) (table : List ℕ) (behind : L
       (world store (input_with player.opponent told other) out before)
       (world left_store (input_with player.opponent left other) taken now)
   loaded_ran apart quiet fine later silent untouched kind cause end taken ends other =
-      let heard = hears player.opponent told left other w.2 w.1 arrival.answer silent kind w.5 w.6
+      let heard = hears_what_it_took player.opponent told left other w.2 w.1 arrival.answer silent
+          kind w.5 w.6
       cause in
       journey_ran player table behind p apart store left_store quiet fine given l
       (input_with player.opponent told other) (input_with player.opponent left other) out mid taken

@@ -129,8 +129,8 @@ module _ (rules table : List ℕ) (behind : List (List ℕ))
   abbrev lines : RuleLines
   lines = read.rules
 
-  accepted : rules_of text ≡ Ok lines
-  accepted = text_read.due.1
+  text_is_accepted : rules_of text ≡ Ok lines
+  text_is_accepted = text_read.due.1
 
   -- files that hold what the names may hold
   record Holds (helds : List (Option (List ℕ))) : Type 0 where
@@ -138,8 +138,9 @@ module _ (rules table : List ℕ) (behind : List (List ℕ))
     pub here : all.files rules ≡ Some text
     pub others : map all.files behind ≡ helds
 
-  holds : (helds : List (Option (List ℕ))) → MayHoldAll mid.files behind helds → Holds helds
-  holds helds may =
+  files_hold_tables : (helds : List (Option (List ℕ))) → MayHoldAll mid.files behind helds
+      → Holds helds
+  files_hold_tables helds may =
       let first = subst (λ (x : Option (List ℕ)). MayHold old.files rules x) text_read.due.0
       (may_hold_there old.files text_read.files rules text_read.agrees) in
       let rest = subst (λ (o : Option Files). MayHoldAll o behind helds) quiet.unwritten.files may in
@@ -165,11 +166,11 @@ module _ (rules table : List ℕ) (behind : List (List ℕ))
         (spent done)
     spends helds h within =
         let steps = subst (λ (x : Result RuleLines RulesFault). now ≤ before + if_read x
-        (sum_by steps_of helds + 4 * text_size x)) accepted within.steps in
+        (sum_by steps_of helds + 4 * text_size x)) text_is_accepted within.steps in
         let asked = subst (λ (x : Result RuleLines RulesFault). new.asked ≤ mid.asked + if_read x
-        (sum_by bytes_of helds)) accepted within.asked in
+        (sum_by bytes_of helds)) text_is_accepted within.asked in
         let calls = subst (λ (x : Result RuleLines RulesFault). new.calls ≤ mid.calls + if_read x
-        (sum_by calls_of helds + writing_calls (text_size x))) accepted within.calls in
+        (sum_by calls_of helds + writing_calls (text_size x))) text_is_accepted within.calls in
         let first_asked = subst (λ (x : Option (List ℕ)). mid.asked ≤ old.asked + asked_of x)
         text_read.due.0 text_read.asked in
         let first_calls = subst (λ (x : Option (List ℕ)). mid.calls ≤ old.calls + (1 + reads_of x))
@@ -185,7 +186,7 @@ module _ (rules table : List ℕ) (behind : List (List ℕ))
         (subst (λ (l : List (Option (List ℕ))). WithinCosts (build_costs (Some text) l)
         (spent start) (spent done)) (sym h.others)
         (subst (λ (x : Result RuleLines Refusal). WithinCosts (costs_by x (Some text) helds)
-        (spent start) (spent done)) (sym (ap or_fault accepted)) by_lines))
+        (spent start) (spent done)) (sym (ap or_fault text_is_accepted)) by_lines))
 
     abbrev found : (helds : List (Option (List ℕ))) (h : Holds helds) (files : Files)
         (left : List ℕ) → Agrees start files left
@@ -221,7 +222,7 @@ module _ (rules table : List ℕ) (behind : List (List ℕ))
         (built_line size) end after refl (wrote_after table b.bytes old mid new quiet b.written)
         (fine_after old mid new fine b.fine) full told
         (λ files left agrees.
-        let h = holds (all_held b.tables) b.may_all in
+        let h = files_hold_tables (all_held b.tables) b.may_all in
         let whole = is_made (all_held b.tables) h b.tables b.bytes b.rules b.accepted refl
         (record { there = refl; exact = judged_exact [] b.tables b.exact }) b.one_file in
         record {
@@ -236,7 +237,7 @@ module _ (rules table : List ℕ) (behind : List (List ℕ))
     module _ (end : End) (after : SinkTold) (fault : AtlasFault)
         (r : RefusesToBuild text behind table mid new before now fault) where
       abbrev h : Holds r.helds
-      h = holds r.helds r.may_all
+      h = files_hold_tables r.helds r.may_all
 
       some : (files : Files) (left : List ℕ) → Agrees start files left
           → Begun (building_at rules table behind) files left start done
@@ -280,7 +281,7 @@ module _ (rules table : List ℕ) (behind : List (List ℕ))
           → HasAtlasCause {T = ℕ} (Err f) mid new → EndsAt f end out after
           → Ran (building_at rules table behind) end start (world new input after now)
       by_fault (Rules f) refused cause ends =
-          let no : ◌≡◌ {A = Result RuleLines RulesFault} (Ok lines) (Err f) = sym accepted
+          let no : ◌≡◌ {A = Result RuleLines RulesFault} (Ok lines) (Err f) = sym text_is_accepted
           ∙ refused.0 in cc
       by_fault (Table f) refused cause ends = absurd refused
       by_fault (Back place f) refused cause ends =
@@ -293,7 +294,7 @@ module _ (rules table : List ℕ) (behind : List (List ℕ))
             found = found r.helds h files left agrees;
             answer = no_back (record {
               lines = lines;
-              accepted = held_rules (h.all.files rules) text lines h.here accepted;
+              accepted = held_rules (h.all.files rules) text lines h.here text_is_accepted;
               place = place;
               fault = f;
               refused = subst (λ (l : List (Option (List ℕ))). IsRefusedAt [] l place f)

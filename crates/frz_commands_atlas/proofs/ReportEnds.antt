@@ -100,12 +100,12 @@ module _ (table : List ℕ) (behind : List (List ℕ)) (apart : has_twice (table
   abbrev mid : World
   mid = world new input out now
 
-  spends : (held : Option (List ℕ)) (helds : List (Option (List ℕ)))
+  reading_spends : (held : Option (List ℕ)) (helds : List (Option (List ℕ)))
       (h : Holds old.files table behind held helds) → WithinReading held helds old new
       → now ≤ before + own_size held
       → WithinCosts (report_costs (h.all.files table) (map h.all.files behind)) (spent start)
       (spent mid)
-  spends held helds h within steps =
+  reading_spends held helds h within steps =
       subst (λ (x : Option (List ℕ)). WithinCosts (report_costs x (map h.all.files behind))
       (spent start) (spent mid)) (sym h.here)
       (subst (λ (l : List (Option (List ℕ))). WithinCosts (report_costs held l) (spent start)
@@ -136,7 +136,7 @@ module _ (table : List ℕ) (behind : List (List ℕ)) (apart : has_twice (table
               h.all.agrees agrees;
           answer = sym (answer_by table behind h.all.files (Some l.bytes) (all_held l.tables) h.here
               h.others (Ok contents) (Ok l.tables) l.opens l.all_open);
-          costs = spends (Some l.bytes) (all_held l.tables) h l.within
+          costs = reading_spends (Some l.bytes) (all_held l.tables) h l.within
               (let size = ap opened_size l.opens in omega (arith, size, steps));
         }
 
@@ -180,7 +180,7 @@ module _ (table : List ℕ) (behind : List (List ℕ)) (apart : has_twice (table
 
     costs : WithinCosts (report_costs (h.all.files table) (map h.all.files behind)) (spent start)
         (spent mid)
-    costs = spends r.held r.helds h r.within (omega (arith, steps))
+    costs = reading_spends r.held r.helds h r.within (omega (arith, steps))
 
     some : (files : Files) (left : List ℕ) → Agrees start files left
         → Begun (reporting_at table behind) files left start mid

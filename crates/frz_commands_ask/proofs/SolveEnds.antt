@@ -21,7 +21,7 @@ use Rattle.frz_prelude.specs.declared.stop.Stop.TheVariants.{Refused, Fault}
 use Rattle.frz_prelude.proofs.Lemmas.{of_rules, StopsWith}
 use Rattle.frz_commands_ask.specs.Meaning.{solving_at}
 use Rattle.frz_commands_ask.specs.Solving.{AreFound, IsSolvedBy}
-use Rattle.frz_commands_ask.proofs.Solved.{some_solved_at, is_refused_at, is_read_at, is_inside, is_outside}
+use Rattle.frz_commands_ask.proofs.SolveStages.{some_solved_at, is_refused_at, is_read_at, is_inside, is_outside}
 use Rattle.frz_commands_ask.specs.declared.bounds.Bounds.{Bounds}
 
 -- the files over which it answers

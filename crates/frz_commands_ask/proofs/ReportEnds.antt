@@ -115,16 +115,17 @@ module _ (name : List ℕ) (table : Table) (old mid new : StoreTold) (input : So
   cause_all (Err faults.Output) h = fine_after old mid new begun.fine h
   cause_all (Err faults.NoMemory) h = tt
 
-  within : (bytes : List ℕ) → opened (table_format Plain) (Some bytes) ≡ Ok (contents_of table)
+  within_held_file : (bytes : List ℕ)
+      → opened (table_format Plain) (Some bytes) ≡ Ok (contents_of table)
       → WithinFile (Some bytes) old new before now
-  within bytes opens = within_file bytes (contents_of table) old mid new before now opens
+  within_held_file bytes opens = within_file bytes (contents_of table) old mid new before now opens
       begun.asked begun.calls begun.more_asked begun.more_calls begun.steps
 
   first_seen : FileSeen name old new before now (contents_of table) begun.opens.bytes
   first_seen = record {
     may = begun.opens.may;
     opens = begun.opens.opens;
-    within = within begun.opens.bytes begun.opens.opens;
+    within = within_held_file begun.opens.bytes begun.opens.opens;
   }
 
   -- the file whose codes were loaded opens as the table
@@ -136,7 +137,7 @@ module _ (name : List ℕ) (table : Table) (old mid new : StoreTold) (input : So
       begun.opens.opens).read in
       let there = file_opens Plain table name bytes old.files mid.files
       begun.opening.unwritten.files begun.kind begun.named read may file in
-      record { may = there.0; opens = there.1; within = within bytes there.1 }
+      record { may = there.0; opens = there.1; within = within_held_file bytes there.1 }
 
   of_file : (result : Result Totals ReportFault) → StoreCause result mid new
       → WritesOfFile mid.files table result out_old out_new
@@ -150,11 +151,11 @@ module _ (name : List ℕ) (table : Table) (old mid new : StoreTold) (input : So
       (world old input out_old before) (world new input out_old now) agrees
       (loaded_seen h.bytes h.may h.file)) result (cause_all result cause) h.wrote
 
-  unread : (fault : Fault) → MayMeet (reporting_at name) fault (world old input out_old before)
+  unread_ends : (fault : Fault) → MayMeet (reporting_at name) fault (world old input out_old before)
       (world new input out_new now) → out_new ≡ out_old
       → Ran (reporting_at name) (Stopped fault) (world old input out_old before)
       (world new input out_new now)
-  unread fault meets same =
+  unread_ends fault meets same =
       unreported (reporting_at name) (may_report name) table.rules (value_by table.rules)
       (kept_codes (contents_of table) begun.opens.bytes) old new input out_old out_new before now
       quiet_all begun.later
@@ -163,16 +164,16 @@ module _ (name : List ℕ) (table : Table) (old mid new : StoreTold) (input : So
       meets same
 
   -- the report of an open table ends the command
-  pub reported : (result : Result Totals ReportFault) → StoreCause result mid new
+  pub report_ends : (result : Result Totals ReportFault) → StoreCause result mid new
       → WritesOfTable mid.files table result out_old out_new
       → Ran (reporting_at name) (end_by result) (world old input out_old before)
       (world new input out_new now)
-  reported (Ok totals) cause h = of_file (Ok totals) cause h
-  reported (Err faults.Store) cause h =
-      unread stops.Store (refl, cause_all (Err faults.Store) cause) h
-  reported (Err faults.Output) cause h = of_file (Err faults.Output) cause h
-  reported (Err faults.NoMemory) cause (inl same) = unread stops.NoMemory refl same
-  reported (Err faults.NoMemory) cause (inr h) = of_file (Err faults.NoMemory) cause h
+  report_ends (Ok totals) cause h = of_file (Ok totals) cause h
+  report_ends (Err faults.Store) cause h =
+      unread_ends stops.Store (refl, cause_all (Err faults.Store) cause) h
+  report_ends (Err faults.Output) cause h = of_file (Err faults.Output) cause h
+  report_ends (Err faults.NoMemory) cause (inl same) = unread_ends stops.NoMemory refl same
+  report_ends (Err faults.NoMemory) cause (inr h) = of_file (Err faults.NoMemory) cause h
 
 module _ (name : List ℕ) (files : Files) (input : List ℕ) (old new : World)
     (agrees : Agrees old files input) (fault : TableFault)

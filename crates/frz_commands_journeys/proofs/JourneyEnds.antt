@@ -57,7 +57,7 @@ use Rattle.frz_commands_journeys.specs.Endings.{EndsJourney, answer_status, nami
 use Rattle.frz_commands_journeys.specs.JourneyOf.{IsJourneyBy, IsPlayed, IsPlayedAt, IsPlayedBy, IsPlayedOver, heard_by, journey_answer, leaning, played_text}
 use Rattle.frz_commands_journeys.specs.Journeying.{journeying_at, statuses_of, takes_input}
 use Rattle.frz_commands_journeys.proofs.Behind.{after_lines, once_is_not}
-use Rattle.frz_commands_journeys.proofs.Heard.{Hears, chosen, heard_whole, may_rest, may_whole, none_taken, split_there, untaken}
+use Rattle.frz_commands_journeys.proofs.InputHeard.{Hears, chosen, heard_whole, may_rest, may_whole, none_taken, split_there, untaken_is_free}
 use Rattle.frz_commands_journeys.proofs.Texts.{SomeArrival, arrival_of, fault_said, short_said, some_stages}
 
 -- that there is a journey
@@ -188,8 +188,8 @@ module _ (player : Player) (table : List ℕ) (behind_it : List (List ℕ)) (p :
       (subst (λ (y : Result (List TableBytes) (ℕ × TableFault)). StepsBy Within player p
       (Ok contents) l.bytes y heard) (sym l.all_open) within)))
 
-  spends : (steps : ℕ) → now ≤ before + steps → Within steps
-  spends steps few = record { steps = few; calls = l.within.calls; asked = l.within.asked }
+  within_steps : (steps : ℕ) → now ≤ before + steps → Within steps
+  within_steps steps few = record { steps = few; calls = l.within.calls; asked = l.within.asked }
 
   module _ (inside : Member contents.rules.groups p) (text took whole : List ℕ)
       (lines : IsLines text) where
@@ -248,7 +248,7 @@ module _ (player : Player) (table : List ℕ) (behind_it : List (List ℕ)) (p :
           (subst (λ b. MatchBool b ((stages : List Stage) (last : Input)
           → IsJourneyBy player p contents l.bytes l.tables whole stages last
           → Within (turns_in stages)) (Within 0)) (sym (of_member contents.rules.groups p inside))
-          (λ stages last j. spends (turns_in stages) (so.turns stages last j))))
+          (λ stages last j. within_steps (turns_in stages) (so.turns stages last j))))
 
       -- an answer is this one of the journey
       answer_here : (input : List ℕ) → heard_by player.opponent input ≡ whole
@@ -297,7 +297,7 @@ module _ (player : Player) (table : List ℕ) (behind_it : List (List ℕ)) (p :
               agrees.source;
         };
         free = λ never. once_is_not never;
-        untaken = untaken player.opponent whole free;
+        untaken = untaken_is_free player.opponent whole free;
       }
 
       abbrev found_behind : (m : Files) (free : List ℕ) → Agrees between m free
@@ -311,7 +311,7 @@ module _ (player : Player) (table : List ℕ) (behind_it : List (List ℕ)) (p :
               free agrees.source;
         };
         free = λ never. once_is_not never;
-        untaken = untaken player.opponent left_over free;
+        untaken = untaken_is_free player.opponent left_over free;
       }
 
       many_taken : length took + length so.unread ≡ length whole - length so.left.left
@@ -456,7 +456,8 @@ module _ (player : Player) (table : List ℕ) (behind_it : List (List ℕ)) (p :
             (subst (λ b. MatchBool b ((stages : List Stage) (last : Input)
             → IsJourneyBy player p contents l.bytes l.tables heard_of stages last
             → Within (turns_in stages)) (Within 0))
-            (sym (not_member contents.rules.groups p none)) (spends 0 (omega (arith, steps_is))));
+            (sym (not_member contents.rules.groups p none))
+            (within_steps 0 (omega (arith, steps_is))));
       }))
 
   -- a fault ended the command, and nothing more was written

@@ -41,7 +41,7 @@ use Rattle.frz_journeys.specs.Playing.{turns_in}
 use Rattle.frz_commands_journeys.specs.Costs.{CostsAt, StepsBy, journey_costs}
 use Rattle.frz_commands_journeys.specs.JourneyOf.{IsJourneyBy, IsPlayedAt, IsPlayedBy, heard_by}
 use Rattle.frz_commands_journeys.specs.Journeying.{journeying_at, statuses_of}
-use Rattle.frz_commands_journeys.proofs.Played.{JourneyThere}
+use Rattle.frz_commands_journeys.proofs.JourneyEnds.{JourneyThere}
 use Rattle.frz_commands_journeys.proofs.Some.{some_at}
 
 own_missing : (o : Opponent) → OneOf statuses.Missing (statuses_of o)
@@ -88,9 +88,9 @@ module _ (there : JourneyThere) (player : Player) (table : List ℕ) (behind : L
   abbrev files : Files
   files = h.all.files
 
-  costs : (heard : List ℕ)
+  costs_no_steps : (heard : List ℕ)
       → CostsAt player p (files table) (map files behind) heard (spent start) (spent mid)
-  costs heard =
+  costs_no_steps heard =
       no_steps (λ n. WithinCosts (journey_costs (files table) (map files behind) n) (spent start)
       (spent mid))
       (λ n. subst (λ (o : Option (List ℕ)). WithinCosts (journey_costs o (map files behind) n)
@@ -120,11 +120,11 @@ module _ (there : JourneyThere) (player : Player) (table : List ℕ) (behind : L
       (subst (λ (z : Result (List TableBytes) (ℕ × TableFault)). IsPlayedBy player p x
       (unwrap_or r.held []) z heard files a) (sym are) is)))
 
-  some : (m : Files) (left : List ℕ) → Agrees start m left → Begun job m left start mid
-  some m left agrees = record {
+  some_beginning : (m : Files) (left : List ℕ) → Agrees start m left → Begun job m left start mid
+  some_beginning m left agrees = record {
     found = found_where job files m left start (λ e. cc) h.all.agrees agrees;
     some = some_at there player table behind p (heard_by player.opponent left) files;
-    costs = costs (heard_by player.opponent left);
+    costs = costs_no_steps (heard_by player.opponent left);
   }
 
   may_end : (f : AtlasFault) → IsUnopenedAtlas r.held r.helds f
@@ -149,18 +149,18 @@ module _ (there : JourneyThere) (player : Player) (table : List ℕ) (behind : L
     found = found_where job files m left start (λ e. cc) h.all.agrees agrees;
     answer = by_held (Err f) (opened_all r.helds) refused refl (heard_by player.opponent left)
         (says (table_status f) (table_line f) files) refl;
-    costs = costs (heard_by player.opponent left);
+    costs = costs_no_steps (heard_by player.opponent left);
   }
   answers_at (BackAt place (Refused f)) refused m left agrees = record {
     found = found_where job files m left start (λ e. cc) h.all.agrees agrees;
     answer = by_held (Ok refused.0.0) (Err (place, f)) refused.0.1 refused.1
         (heard_by player.opponent left)
         (says (table_status f) (back_line place (Refused f)) files) refl;
-    costs = costs (heard_by player.opponent left);
+    costs = costs_no_steps (heard_by player.opponent left);
   }
   answers_at (BackAt place (Wrong wrong)) refused m left agrees = absurd refused
-  answers_at Failed refused m left agrees = some m left agrees
-  answers_at NoMemory refused m left agrees = some m left agrees
+  answers_at Failed refused m left agrees = some_beginning m left agrees
+  answers_at NoMemory refused m left agrees = some_beginning m left agrees
 
   pub unread_ran : (end : End) (after : SinkTold)
       → HasAtlasCause {T = LoadedAtlas} (Err fault) old new → EndsAt fault end out after
