@@ -93,11 +93,11 @@ module _ {X : Type 0} (rank : X → ℕ) where
       let at_y = passing_is_kept (same_rank y) y ys (equal_ranks_tie y y refl) in
       let at_z = passing_is_kept (same_rank z) z zs (equal_ranks_tie z z refl) in
       let up = rank_found_at_least (rank z) y (z ∷ zs) y _ (omega arith, right.0)
-          (sym (same y) ∙ at_y) in
+      (sym (same y) ∙ at_y) in
       let down = rank_found_at_least (rank y) z (y ∷ ys) z _ (omega arith, left.0)
-          (same z ∙ at_z) in
+      (same z ∙ at_z) in
       let heads = sym at_y ∙ same y ∙ passing_is_kept (same_rank y) z zs
-          (equal_ranks_tie y z (omega arith)) in
+      (equal_ranks_tie y z (omega arith)) in
       let head : y ≡ z = cc in
       let tails : (x : X) → filter (same_rank x) ys ≡ filter (same_rank x) zs = λ x.
       elim (cases_Bool (same_rank x y)) [

@@ -115,7 +115,7 @@ module _ (there : JourneyThere) (player : Player) (table : List ℕ) (behind : L
       (world left_store (input_with player.opponent left other) taken now)
   loaded_ran apart quiet fine later silent untouched kind cause end taken ends other =
       let heard = hears_what_it_took player.opponent told left other w.2 w.1 arrival.answer silent
-          kind w.5 w.6
+      kind w.5 w.6
       cause in
       journey_ran player table behind p apart store left_store quiet fine given l
       (input_with player.opponent told other) (input_with player.opponent left other) out mid taken

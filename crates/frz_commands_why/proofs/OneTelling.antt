@@ -61,6 +61,7 @@ module _ (rules : RuleLines) (value : Board → Value) (side : Colour) (codes : 
             wrong = wrong_in way.1;
             told = fails failing way.0 way.1 way.2;
           }
+
       by_hold : (b : Bool) → (code == 1) ≡ b → code ≢ 0 → Tale
       by_hold true e zero =
           let hold = eqb-true code 1 e in
@@ -71,6 +72,7 @@ module _ (rules : RuleLines) (value : Board → Value) (side : Colour) (codes : 
             told = holds hold d.denials d.wrong_one d.denied;
           }
       by_hold false e zero = by_win (is_win code) refl (eqb-false code 1 e) zero
+
       by_zero : (b : Bool) → (code == 0) ≡ b → Tale
       by_zero true e = record {
         text = [];

@@ -20,9 +20,11 @@ pub struct Names<'a> {
 /// The names that the words give; `None` for any number of words but 3 to 19.
 fn given_names(words: &[String]) -> Option<Names<'_>>
     ensures { option_map (λ names. record {
-            table = names.table.now; fen = names.fen.now; side = names.side.now;
-            behind = map string_bytes names.behind.now
-        }) result ≡ why_names_of (map string_bytes words.now) }
+      table = names.table.now;
+      fen = names.fen.now;
+      side = names.side.now;
+      behind = map string_bytes names.behind.now;
+    }) result ≡ why_names_of (map string_bytes words.now) }
 {
     match words {
         [table, fen, side, behind @ ..] if behind.len() <= MOST_BACKS => Some(Names {
@@ -46,9 +48,11 @@ fn is_same_file(names: &Names<'_>) -> bool
 /// refused.
 pub fn why_names(words: &[String]) -> Result<Names<'_>, Refusal>
     ensures named { IfOk result (λ names. AreNamed (map string_bytes words.now) (record {
-            table = names.table.now; fen = names.fen.now; side = names.side.now;
-            behind = map string_bytes names.behind.now
-        })) }
+      table = names.table.now;
+      fen = names.fen.now;
+      side = names.side.now;
+      behind = map string_bytes names.behind.now;
+    })) }
     ensures refused { IfErr result (DoNotName (map string_bytes words.now)) }
 {
     match given_names(words) {

@@ -197,7 +197,16 @@ fn why_from<S: Store, O: Sink, L: Ledger>(
         (fen_of names.now.fen.now)).needs.store ≡ false → store.new ≡ store.old }
 {
     match read_fen(names.fen.as_bytes()) {
-        Ok(p) => why_at(alloc, names.table, names.behind, side, &p, store, out, steps),
+        Ok(p) => why_at(
+            alloc,
+            names.table,
+            names.behind,
+            side,
+            &p,
+            store,
+            out,
+            steps,
+        ),
         Err(fault) => refuse_named(Refused::Fen(fault), out),
     }
 }
@@ -214,15 +223,19 @@ fn why_for<S: Store, O: Sink, L: Ledger>(
         ≡ false }
     requires few { length (map string_bytes names.now.behind.now) ≤ MOST_BACKS }
     ensures ran { (input : SourceTold) → Ran (asking_named (record {
-            table = names.now.table.now; fen = names.now.fen.now; side = names.now.side.now;
-            behind = map string_bytes names.now.behind.now
-        })) result
+      table = names.now.table.now;
+      fen = names.now.fen.now;
+      side = names.now.side.now;
+      behind = map string_bytes names.now.behind.now;
+    })) result
         (world (store_of S.Store store.old) input (sink_of O.Sink out.old) steps.old)
         (world (store_of S.Store store.new) input (sink_of O.Sink out.new) steps.new) }
     ensures store_unused { (asking_named (record {
-            table = names.now.table.now; fen = names.now.fen.now; side = names.now.side.now;
-            behind = map string_bytes names.now.behind.now
-        })).needs.store ≡ false → store.new ≡ store.old }
+      table = names.now.table.now;
+      fen = names.now.fen.now;
+      side = names.now.side.now;
+      behind = map string_bytes names.now.behind.now;
+    })).needs.store ≡ false → store.new ≡ store.old }
 {
     match read_side(names.side) {
         Some(side) => why_from(alloc, names, side, store, out, steps),
@@ -230,7 +243,7 @@ fn why_for<S: Store, O: Sink, L: Ledger>(
     }
 }
 
-/// Runs the command `why`; `words` are the words behind its name, TABLE, FEN, SIDE and 0 to 16
+/// Runs the command `why TABLE FEN SIDE [BACK]..`; `words` are TABLE, FEN, SIDE and 0 to 16
 /// BACKs. Refuses a name that stands twice, before it reads a file. No code is checked but those on
 /// the way.
 pub fn run_why<S: Store, O: Sink, L: Ledger>(

@@ -29,7 +29,7 @@ module _ {X Y : Type 0} (f : X → Option Y) where
               (r.0, Contains-append_right (x ∷ []) xs r.0 r.1, r.2)
         ]
     | inl n ↦ let r = picked_from xs y
-            (subst (λ ys. Contains ys y) (unpicked_is_dropped x xs n) h) in
+        (subst (λ ys. Contains ys y) (unpicked_is_dropped x xs n) h) in
         (r.0, Contains-append_right (x ∷ []) xs r.0 r.1, r.2)
   ]
 
