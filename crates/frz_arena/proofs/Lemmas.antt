@@ -4,6 +4,7 @@ pub use Rattle.frz_arena.proofs.LocalCodes.ChosenCodes.{from_kept, win_and_failu
 pub use Rattle.frz_arena.proofs.LocalCodes.CodesByPlies.{AreCodes}
 pub use Rattle.frz_arena.proofs.Forcing.HoldsSafe.{forced_fails}
 pub use Rattle.frz_arena.proofs.Forcing.LawfulGame.{game_is_lawful}
+pub use Rattle.frz_arena.proofs.Lists.FirstOnes.{at_in, first_there, one_first}
 pub use Rattle.frz_arena.proofs.Lists.Members.{none_in_empty, first_in, later_in, cases_Option, in_cases}
 pub use Rattle.frz_arena.proofs.Plies.NeverBoth.{never_both}
 pub use Rattle.frz_arena.proofs.Names.NumberedGames.{going, inside}

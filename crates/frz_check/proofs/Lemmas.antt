@@ -5,7 +5,7 @@ pub use Rattle.frz_check.proofs.Accepted.{
   read_small,
   small_lags,
 }
-pub use Rattle.frz_check.proofs.KeptTables.{both_tables, bound_kept, opened_alone}
+pub use Rattle.frz_check.proofs.KeptTables.{HoldsTables, both_tables, bound_kept, exact_contents, exact_opens, exact_tables}
 pub use Rattle.frz_check.proofs.FileChecks.{file_not_loaded, file_opens, many_codes, same_verdict, within_file}
 pub use Rattle.frz_check.proofs.OneVerdict.{TablesExact, verdict_there, one_verdict, exact_verdict}
 pub use Rattle.frz_check.proofs.OneFile.{

@@ -1,9 +1,7 @@
 -- By an exact table no move of a failing way could be better.
 use Rattle.std.proofs.Common.{◌≡◌, ◌≢◌, ◌+◌, ◌-◌, ℕ, Bool, true, false, not, ◌||◌, List, [], ◌∷◌, Some, refl, sym, ap, subst, ◌∙◌, slice_index, arith}
-use Rattle.std.specs.Prelude.{◌==◌, slice_get}
-use Rattle.std.specs.List.{Contains}
+use Rattle.std.specs.Prelude.{◌==◌}
 use Rattle.std.proofs.lemmas.Bool.{and_parts, eqb-true}
-use Rattle.std.proofs.lemmas.Option.{get_or_from_slice_get, slice_get_within}
 use Rattle.frz_board.specs.Boards.{Board}
 use Rattle.frz_board.specs.Men.{other_of, same_colour}
 use Rattle.frz_board.specs.Moving.{Step}
@@ -19,6 +17,7 @@ use Rattle.frz_arena.specs.Arena.{Arena, IsArm}
 use Rattle.frz_arena.specs.Codes.{is_failure}
 use Rattle.frz_arena.specs.LocalCodes.{arm_code, next_code}
 use Rattle.frz_arena.specs.Plies.{LeadsTo}
+use Rattle.frz_arena.proofs.Lemmas.{at_in}
 use Rattle.frz_game.specs.Bounds.{IsTableOf}
 use Rattle.frz_game.specs.Games.{graph_by}
 use Rattle.frz_reasons.specs.declared.reason.Reason.{Reason}
@@ -49,9 +48,6 @@ pub record BestLaws : Type 0 where
       (b : Arm Step ℕ Value) → IsArm (graph_by rules value) number b → b.free ≡ true →
       (plies : ℕ) → FailsBehind (graph_by rules value) side plies a →
       FailsBehind (graph_by rules value) side plies b
-
-at_in : {A : Type 0} (xs : List A) (i : ℕ) (x : A) → slice_get xs i ≡ Some x → Contains xs x
-at_in xs i x e = (i, slice_get_within xs i x e, get_or_from_slice_get xs i x x e)
 
 same_side : (side : Colour) → same_colour side side ≡ true
 same_side White = refl

@@ -10,10 +10,10 @@ use Rattle.frz_arena.specs.declared.node.Node.TheVariants.{Mate, Going}
 use Rattle.frz_arena.specs.Arena.{Arena, IsArm}
 use Rattle.frz_arena.specs.Chosen.{IsFirst, is_candidate}
 use Rattle.frz_arena.specs.Codes.{is_failure}
+use Rattle.frz_arena.proofs.Lemmas.{at_in, first_there, one_first}
 use Rattle.frz_reasons.specs.LocalEntries.{given_at, Agrees, Differs}
 use Rattle.frz_reasons.specs.FailingWays.{IsPlayedAt}
 use Rattle.frz_reasons.specs.FailuresTell.{FailsAt, code_behind, mated, renounced, moves, waits}
-use Rattle.frz_reasons.proofs.Best.{at_in, first_there, one_first}
 use Rattle.frz_reasons.proofs.Codes.{same_side, other_side}
 
 same_mover : (m n : Colour) → Going m ≡ Going n → m ≡ n
@@ -71,10 +71,10 @@ module _ (arena : Arena Step ℕ Value) (side : Colour) (codes : List ℕ) where
       → IsPlayedAt arena side codes number b → a ≡ b
   one_played number a b p q =
       let same : p.mover ≡ q.mover = same_mover p.mover q.mover (sym p.turn ∙ q.turn) in
-      one_first (candidate q.mover (slice_index codes number - 2)) (arena.arms number) p.place
-      q.place a b
-      (subst (λ (m : Colour). IsFirst (candidate m (slice_index codes number - 2))
-      (arena.arms number) p.place a) same p.first) q.first
+      let first : IsFirst (candidate q.mover (slice_index codes number - 2)) (arena.arms number)
+      p.place a = subst (λ (m : Colour). IsFirst (candidate m (slice_index codes number - 2))
+      (arena.arms number) p.place a) same p.first in
+      (one_first p.place q.place a b first q.first).1
 
   -- what is played by what the codes tell: one ply less, and still a failure
   pub record PlaysOn (number : ℕ) (a : Arm Step ℕ Value) : Type 0 where
