@@ -35,6 +35,7 @@ find_names_of_atlas() {
         check | report) find_tables_behind $# 2 1 ;;
         premises) find_tables_behind $# 2 0 ;;
         line | play) ! is_side "${4-}" || find_tables_behind $# 4 1 ;;
+        why) ! is_side "${4-}" || find_tables_behind $# 4 0 ;;
         query | each) [ $# -ne 3 ] || reads=(1) ;;
         size) [ $# -ne 2 ] || reads=(1) ;;
     esac
