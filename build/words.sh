@@ -28,7 +28,7 @@ find_tables_behind() {
     [ "$backs" -lt "$3" ] || [ "$backs" -gt "$most_backs" ] || mapfile -t reads < <(echo 1 && seq "$2" $(($1 - 1)))
 }
 
-# A word that is no side is refused before any name is looked at.
+# A word that is no side is refused before any file is looked at.
 find_names_of_atlas() {
     case "${1-}" in
         build) find_tables_behind $# 3 1 ;;
