@@ -42,7 +42,7 @@ how_far() {
         check) told_of "$(numbers_of "${words[1]}")" "checking$(it_and_those_behind)" ;;
         chaincheck) told_of "$(numbers_of "${words[1]}")" "checking it and the table behind" ;;
         report) told_of "$(numbers_of "${words[1]}")" "going over it, with the tables behind" ;;
-        line) told_of "$(numbers_of "${words[1]}")" "reading it and the tables behind" ;;
+        line | why) told_of "$(numbers_of "${words[1]}")" "reading it and the tables behind" ;;
         premises) tell_premises ;;
         *)
             numbers=$(numbers_of "$1")

@@ -28,13 +28,14 @@ find_tables_behind() {
     [ "$backs" -lt "$3" ] || [ "$backs" -gt "$most_backs" ] || mapfile -t reads < <(echo 1 && seq "$2" $(($1 - 1)))
 }
 
-# A word that is no side is refused before any name is looked at.
+# A word that is no side is refused before any file is looked at.
 find_names_of_atlas() {
     case "${1-}" in
         build) find_tables_behind $# 3 1 ;;
         check | report) find_tables_behind $# 2 1 ;;
         premises) find_tables_behind $# 2 0 ;;
         line | play) ! is_side "${4-}" || find_tables_behind $# 4 1 ;;
+        why) ! is_side "${4-}" || find_tables_behind $# 4 0 ;;
         query | each) [ $# -ne 3 ] || reads=(1) ;;
         size) [ $# -ne 2 ] || reads=(1) ;;
     esac

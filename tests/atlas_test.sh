@@ -45,6 +45,8 @@ test_no_file_stands_twice_among_the_names_of_atlas() {
     refused_by_atlas line one FEN white ./one
     refused_by_atlas line one FEN black two link
     refused_by_atlas play one FEN white two two
+    refused_by_atlas why one FEN white link
+    refused_by_atlas why one FEN black two ./two
     refused_by_atlas premises A ./A
     refused_by_atlas premises A one two link
     is "$(cat "$FAKE_LOG")" "" "checks: the program is not built for this"
@@ -70,13 +72,16 @@ test_names_that_are_none_are_the_program_s() {
         run "$toy/atlas" $words
         is "$status $out" "7 ${words// /$'\n'}" "the answer to $words"
     done
-    for words in premises\ A 'premises A one'; do
+    for words in 'why A FEN' 'why A A white' 'why A FEN blue A' 'why A FEN white one' premises\ A 'premises A one'; do
         # shellcheck disable=SC2086
         run "$toy/atlas" $words
         is "$status $out" "4 told" "the answer to $words"
     done
-    run "$toy/atlas" premises A A 2 3 4 5 6 7 8 9 10 11 12 13 14 15 16 17
-    is "$status $out" "4 told" "the answer to premises with seventeen"
+    for words in 'premises A' 'why A FEN white'; do
+        # shellcheck disable=SC2086
+        run "$toy/atlas" $words A 2 3 4 5 6 7 8 9 10 11 12 13 14 15 16 17
+        is "$status $out" "4 told" "the answer to $words with seventeen"
+    done
 }
 
 test_atlas_replaces_a_table_by_a_whole_one() {
@@ -116,6 +121,7 @@ tells() {
 test_atlas_tells_of_what_it_reads() {
     make_built_toy_of_two
     printf 'FREEZER2\0\0\0\0\0\0\0\4' > one
+    tells table "reading it and the tables behind" why table FEN white one
     tells table "going over it, with the tables behind" report table one
     tells A "going over the exits" premises A
     tells A "67108864 numbers: checking the tables behind and the exits" premises A one

@@ -111,8 +111,8 @@ class Handler(http.server.BaseHTTPRequestHandler):
             self.send_json(answers.shown())
         elif name == "position" and is_word(fen) and is_word(san):
             self.send_json(answers.position(fen, san))
-        elif name == "line" and is_word(fen) and side in SIDES:
-            self.send_json(answers.walks.line(fen, side))
+        elif name in ("line", "why") and is_word(fen) and side in SIDES:
+            self.send_json(getattr(answers.walks, name)(fen, side))
         elif name.partition("/")[0] in answers.courses and name.partition("/")[2] in ("", "start", "stop"):
             self.send_json(answers.course(*name.partition("/")[::2]))
         else:

@@ -53,19 +53,20 @@ class Tables:
             return []
         return self.heads[1:place] if place else self.heads[1:]
 
-    def line(self, place, fen, side):
-        """The words that ask the table at this place for its best line; nothing where no command tells it."""
+    def way(self, command, place, fen, side):
+        """The words that ask the table at this place for its best line, or why a bound is none; nothing
+        where no command tells it."""
         head, backs = self.heads[place], [back.path for back in self.leant_on(place)]
         if head.kind == PLAIN:
-            return ("freezer", "line", head.path, fen, side)
+            return ("freezer" if command == "line" else "atlas", command, head.path, fen, side)
         if head.kind == LEANING and 0 < len(backs) <= MOST_BEHIND:
-            return ("atlas", "line", head.path, fen, side, *backs)
+            return ("atlas", command, head.path, fen, side, *backs)
         return None
 
     def shown(self):
-        """What the page is told of each table, and whether its lines are told."""
+        """What the page is told of each table, and whether its ways are told."""
         return [
-            {**head.shown(), "ways": self.line(place, "", "") is not None}
+            {**head.shown(), "ways": self.way("line", place, "", "") is not None}
             for place, head in enumerate(self.heads)
         ]
 

@@ -44,7 +44,8 @@ function showGame() {
   at("game").replaceChildren(
     ...state.game.map((step, place) => {
       const item = document.createElement("li");
-      const button = makeButton(step.text ?? "start", place === state.place ? "here" : "", () => go(place));
+      const kind = `${place === state.place ? "here" : ""} ${step.last ? "last" : ""}`.trim();
+      const button = makeButton(step.text ?? "start", kind, () => go(place));
       if (place === state.place) button.setAttribute("aria-current", "step");
       item.append(button);
       return item;
@@ -68,7 +69,7 @@ function show() {
   showBounds(position, position.table ? tableShown().name : "");
   listMoves();
   showGame();
-  showWays(position.table !== null && tableShown().ways);
+  showWays(position, position.table !== null && tableShown().ways);
   if (document.activeElement !== at("fen")) at("fen").value = position.fen;
 }
 
@@ -148,9 +149,13 @@ function lay(square) {
   if (found.length > 1) at("moves").querySelector("button").focus();
 }
 
-// Puts these steps behind the position that is shown.
+// The game with these steps behind the position that is shown.
+function gameWith(steps) {
+  return numbered([...state.game.slice(0, state.place + 1), ...steps]);
+}
+
 function put(steps) {
-  state.game = numbered([...state.game.slice(0, state.place + 1), ...steps]);
+  state.game = gameWith(steps);
   showGame();
 }
 
@@ -227,7 +232,11 @@ function listen() {
   document.addEventListener("copy", onCopy);
   document.addEventListener("paste", onPaste);
   document.addEventListener("pointerdown", (event) => event.target.closest("#on") || playOn(false));
-  listenToWays({ position: () => state.position, put });
+  listenToWays({
+    position: () => state.position,
+    put,
+    play: (steps) => go(state.place + steps.length, gameWith(steps)),
+  });
 }
 
 const KINDS = { plain: "a table", chained: "a chained table", leaning: "a table over others" };

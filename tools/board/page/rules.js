@@ -24,3 +24,12 @@ export function markLine(place, line, mark) {
 export function clearMarks() {
   for (const mark of document.querySelectorAll(".basis")) mark.remove();
 }
+
+// Points at the line by which a way ended, or at none.
+export function pointAt(place, line) {
+  for (const other of document.querySelectorAll(".rule.culprit")) other.classList.remove("culprit");
+  const found = lineAt(place, line);
+  if (!found) return;
+  found.classList.add("culprit");
+  found.closest("details").open = true;
+}

@@ -1,29 +1,33 @@
-// The best line of a side from the position that is shown. Its moves are put into the game behind that position.
-import { ask, at, shown } from "./ask.js";
+// The ways of a side from the position that is shown: its best line, and why it does not win. Their moves are
+// put into the game behind that position.
+import { ask, at, makeButton, shown } from "./ask.js";
+import { pointAt } from "./rules.js";
 
 const SIDES = ["white", "black"];
 const BUSY = 200; // milliseconds after which the page says that it waits
-const told = { asked: 0 };
+const told = { asked: 0, rowsAt: null };
 
 function say(text) {
   at("way-said").textContent = text;
 }
 
-// Forgets the line that was told.
+// Forgets the way that was told.
 export function clearWay() {
   told.asked += 1;
   say("");
+  showRows([], null);
+  pointAt(0, 0);
 }
 
-// The line from the position that is shown; nothing where something else was asked meanwhile.
-async function askLine(game, side) {
+// A way from the position that is shown; nothing where something else was asked meanwhile.
+async function askWay(game, name, side) {
   clearWay();
   const { fen } = game.position();
   const question = told.asked;
   const waiting = setTimeout(() => say("asking .."), BUSY);
-  const line = await ask("line", { fen, side }).finally(() => clearTimeout(waiting));
+  const way = await ask(name, { fen, side }).finally(() => clearTimeout(waiting));
   if (question !== told.asked) return null;
-  if (game.position().fen === fen) return line;
+  if (game.position().fen === fen) return way;
   say("");
   return null;
 }
@@ -37,18 +41,62 @@ function saidOfStage({ bound, plies, end, table }, place) {
 }
 
 const bestLine = shown(async (game, side) => {
-  const line = await askLine(game, side);
-  if (!line) return;
-  say(line.refused ?? line.stages.map(saidOfStage).join("; "));
-  if (line.steps?.length) game.put(line.steps);
+  const way = await askWay(game, "line", side);
+  if (!way) return;
+  say(way.refused ?? way.stages.map(saidOfStage).join("; "));
+  if (way.steps?.length) game.put(way.steps);
 });
 
-// Shows whether the lines of a position are told.
-export function showWays(tells) {
-  for (const side of SIDES) at(`line-${side}`).disabled = !tells;
+// Who decided the exit at the end of a way.
+function saidOfEnd({ words, by, text, table }) {
+  if (words === "renounced") return "all moves that are left are renounced";
+  if (text !== undefined) return `${words}, by ${by}: ${text}`;
+  if (table !== undefined) return `${words}, by ${table}, a table behind`;
+  return by ? `${words}: ${by} says what it is worth` : words;
 }
 
-// Listens to the buttons. `position` gives the one that is shown, and `put` puts steps behind it.
+function saidOfWhy({ bound, kind, side, steps, rows, end }, turn) {
+  if (kind === "none") return `${bound}; ${inPlies(steps.length)}, then ${saidOfEnd(end)}`;
+  if (kind !== "hold") return `${bound}: nothing keeps it from that`;
+  if (end.words || !rows.length) return `${bound}; ${end.words || "no move is left"}`;
+  return `${bound}; ${turn === side ? "each move, and the first reply" : "the replies"} after which ${side} has no win`;
+}
+
+function rowItem(row, play) {
+  const item = document.createElement("li");
+  item.append(makeButton(row.map((step) => step.san).join(" "), "reply", () => play(row)));
+  return item;
+}
+
+function showRows(rows, fen, play) {
+  told.rowsAt = fen;
+  at("way-rows").hidden = !rows.length;
+  at("way-rows").replaceChildren(...rows.map((row) => rowItem(row, play)));
+}
+
+const why = shown(async (game, side) => {
+  const way = await askWay(game, "why", side);
+  if (!way) return;
+  say(way.refused ?? saidOfWhy(way, game.position().turn));
+  if (way.rows) showRows(way.rows, way.fen, game.play);
+  if (way.steps?.length) game.put(way.steps.map((step, at) => ({ ...step, last: at + 1 === way.steps.length })));
+  if (way.end?.line) pointAt(way.end.place, way.end.line);
+});
+
+// Shows which ways of a side are told at a position, and the rows that belong to it.
+export function showWays(position, tells) {
+  SIDES.forEach((side, place) => {
+    at(`line-${side}`).disabled = !tells;
+    at(`why-${side}`).disabled = !tells || position.bounds[place].kind === "win";
+  });
+  at("way-rows").hidden = told.rowsAt !== position.fen;
+}
+
+// Listens to the buttons. `position` gives the one that is shown, `put` puts steps behind it, and `play` goes
+// to the last of them too.
 export function listenToWays(game) {
-  for (const side of SIDES) at(`line-${side}`).addEventListener("click", () => bestLine(game, side));
+  for (const side of SIDES) {
+    at(`line-${side}`).addEventListener("click", () => bestLine(game, side));
+    at(`why-${side}`).addEventListener("click", () => why(game, side));
+  }
 }
