@@ -1,5 +1,5 @@
 -- What the rows of a hold say in chess.
-use Rattle.std.proofs.Common.{◌≡◌, ℕ, suc, ◌+◌, ◌<◌, not, Bool, true, false, cond, List, [], ◌∷◌, Option, None, Some, map, inl, inr, refl, sym, ap, subst, ◌∙◌, take, slice_index, arith}
+use Rattle.std.proofs.Common.{◌≡◌, ◌⊎◌, ℕ, suc, ◌+◌, ◌<◌, not, Bool, true, false, cond, List, [], ◌∷◌, Option, None, Some, map, inl, inr, refl, sym, ap, subst, ◌∙◌, take, slice_index, arith}
 use Rattle.std.specs.Prelude.{filter, find, is_none, take_while, option_and_then, option_map}
 use Rattle.std.specs.List.{Contains, prefix_len}
 use Rattle.std.proofs.lemmas.Bool.{eq-eqb}
@@ -36,7 +36,7 @@ use Rattle.frz_game.proofs.Lemmas.{arms_there, table_exact}
 use Rattle.frz_reasons.specs.declared.denial.Denial.{Denial}
 use Rattle.frz_reasons.specs.Denials.{DeniesWin, first_denying, first_wrong, is_denied, leads_right, other_denial, other_denials, own_denial, own_denials, reply_to, wrong_behind, wrong_entry, wrong, own, other, stalemate}
 use Rattle.frz_reasons.specs.LocalEntries.{Agrees, given_at}
-use Rattle.frz_commands_why.specs.Denying.{AreDenials, wins_behind}
+use Rattle.frz_commands_why.specs.Denying.{AreDenials, denying_moves, wins_behind}
 
 abbrev Arms : Type 0
 Arms = List (Arm Step ℕ Value)
@@ -154,6 +154,18 @@ stays_at rules value p m next e = by_member (after p m) (is_member rules.groups 
         (record { member = member_of rules.groups q t; number = sym is ∙ name })
     by_member q false t f = absurd cc
 
+-- that of one that leads to a value leaves it
+leaves_at : (rules : RuleLines) (value : Board → Value) (p : Board) (m : Step) (v : Value) →
+    (arm_at rules value p m).next ≡ Outside v → is_member rules.groups (after p m) ≡ false
+unfolding arm_at
+leaves_at rules value p m v e = by_member (after p m) (is_member rules.groups (after p m)) refl e
+  where
+    by_member : (q : Board) (b : Bool) → is_member rules.groups q ≡ b →
+        named_next (name_in (numbers_by rules.groups)) (games.next_by b q (value q))
+        ≡ Outside v → is_member rules.groups q ≡ false
+    by_member q true t f = absurd cc
+    by_member q false t f = t
+
 arm_move : (rules : RuleLines) (value : Board → Value) (p : Board) (m : Step) →
     (arm_at rules value p m).mv ≡ m
 unfolding arm_at
@@ -210,6 +222,54 @@ module _ (rules : RuleLines) (value : Board → Value) (side : Colour) (codes : 
                 ∙ ap (λ (x : Arm Step ℕ Value). is_win (arm_code side codes x)) m.2
                 ∙ not_is (is_win (arm_code side codes b)) found.1,
           )
+
+  -- where none is found, no legal reply leaves the side no win
+  none_denying : (q : Board) (ms : List Step) →
+      find (is_denied side codes) (map (arm_at rules value q) ms) ≡ None →
+      filter (λ m. not (wins_behind rules value side codes q m)) ms ≡ []
+  none_denying q [] e = refl
+  none_denying q (m ∷ ms) e =
+      by_test (is_denied side codes (arm_at rules value q m)) refl e (none_denying q ms)
+    where
+      by_test : (b : Bool) → is_denied side codes (arm_at rules value q m) ≡ b →
+          cond b (Some (arm_at rules value q m))
+          (find (is_denied side codes) (map (arm_at rules value q) ms)) ≡ None →
+          (find (is_denied side codes) (map (arm_at rules value q) ms) ≡ None →
+          filter (λ n. not (wins_behind rules value side codes q n)) ms ≡ []) →
+          filter (λ n. not (wins_behind rules value side codes q n)) (m ∷ ms) ≡ []
+      by_test true t h more = absurd cc
+      by_test false t h more = rw t (more h)
+
+  abbrev Unanswered : Board → Type 0
+  Unanswered q =
+      (is_member rules.groups q ≡ false) ⊎ (denying_moves rules value side codes q ≡ [])
+
+  none_denies : (q : Board) (number : ℕ) → position_at rules.groups number ≡ Some q →
+      first_denying side codes (graph.arms number) ≡ None → Unanswered q
+  none_denies q number at e =
+      by_found (find (is_denied side codes) (map (arm_at rules value q) (legal_moves_of q))) refl
+      (ap (first_denying side codes) (sym (arms_there rules value number q at)) ∙ e)
+    where
+      by_found : (o : Option (Arm Step ℕ Value)) →
+          find (is_denied side codes) (map (arm_at rules value q) (legal_moves_of q)) ≡ o →
+          first_denying side codes (map (arm_at rules value q) (legal_moves_of q)) ≡ None →
+          Unanswered q
+      by_found None f is = inr (none_denying q (legal_moves_of q) f)
+      by_found (Some b) f is = absurd (let no : ◌≡◌ {A = Option Step} (Some b.mv) None =
+          sym (ap (option_map (λ (x : Arm Step ℕ Value). x.mv)) f) ∙ is in cc)
+
+  no_reply : (p : Board) (m : Step) →
+      (own_denial graph side codes (arm_at rules value p m)).reply ≡ None →
+      Unanswered (after p m)
+  no_reply p m e = by_next (arm_at rules value p m).next refl e
+    where
+      by_next : (next : Next ℕ Value) → (arm_at rules value p m).next ≡ next →
+          reply_to graph side codes (arm_at rules value p m).next ≡ None →
+          Unanswered (after p m)
+      by_next (Outside v) n f = inl (leaves_at rules value p m v n)
+      by_next (Inside number) n f =
+          none_denies (after p m) number (stays_at rules value p m number n)
+          (sym (ap (reply_to graph side codes) n) ∙ f)
 
   row_of : (p : Board) (m : Step) (reply : Step) →
       (own_denial graph side codes (arm_at rules value p m)).reply ≡ Some reply →
@@ -271,6 +331,20 @@ module _ (rules : RuleLines) (value : Board → Value) (side : Colour) (codes : 
       subst (λ (x : Step). Denies (after p x) reply) moved
       (row_of p m.0 reply (ap (λ (x : Denial). x.reply) is ∙ e))
 
+  own_unanswered : (p : Board) (xs : Arms) → ((a : Arm Step ℕ Value) → Contains xs a →
+      Contains (map (arm_at rules value p) (legal_moves_of p)) a) →
+      (d : Denial) → Contains (map (own_denial graph side codes) xs) d → d.reply ≡ None →
+      Unanswered (after p d.mv)
+  own_unanswered p xs within d h e =
+      let a = from_mapped (own_denial graph side codes) xs d h in
+      let m = from_mapped (arm_at rules value p) (legal_moves_of p) a.0 (within a.0 a.1) in
+      let is : own_denial graph side codes (arm_at rules value p m.0) ≡ d =
+      ap (own_denial graph side codes) m.2 ∙ a.2 in
+      let moved : m.0 ≡ d.mv =
+      sym (arm_move rules value p m.0) ∙ ap (λ (x : Denial). x.mv) is in
+      subst (λ (x : Step). Unanswered (after p x)) moved
+      (no_reply p m.0 (ap (λ (x : Denial). x.reply) is ∙ e))
+
   other_rows : (p : Board) (xs : Arms) → Rows p (map other_denial xs)
   other_rows p xs d h reply e =
       let a = from_mapped other_denial xs d h in
@@ -313,6 +387,7 @@ module _ (rules : RuleLines) (value : Board → Value) (side : Colour) (codes : 
         (map (own_denial graph side codes) l)) (sym all) (record {
           own = λ _. own_moves xs ∙ passing (λ a. a.free) ∙ free_moves turn;
           replies = own_rows p xs within_arms;
+          unanswered = λ mine. own_unanswered p xs within_arms;
           other = λ theirs. absurd (different side (sym turn ∙ theirs));
         })
     denials_are denials w (other agrees going) none =
@@ -320,6 +395,7 @@ module _ (rules : RuleLines) (value : Board → Value) (side : Colour) (codes : 
         record {
           own = λ mine. absurd (different side (sym mine ∙ turn));
           replies = other_rows p (filter (is_denied side codes) (graph.arms number));
+          unanswered = λ mine. absurd (different side (sym mine ∙ turn));
           other = λ _. other_moves (filter (is_denied side codes) (graph.arms number))
               ∙ passing (is_denied side codes);
         }
@@ -329,6 +405,7 @@ module _ (rules : RuleLines) (value : Board → Value) (side : Colour) (codes : 
         record {
           own = λ _. ap (filter (is_free rules side p)) (sym nothing);
           replies = λ d h reply e. absurd (none_in_empty d h);
+          unanswered = λ mine d h e. absurd (none_in_empty d h);
           other = λ _. ap (filter (λ m. not (wins_behind rules value side codes p m)))
               (sym nothing);
         }
