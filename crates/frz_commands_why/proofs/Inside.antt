@@ -40,8 +40,8 @@ placed_at set groups p number same placed =
     )
 
 pub some_there : (o : Option Board) (p : Board) → o ≡ Some p → IsSome o
-some_there None p e = cc
-some_there (Some q) p e = tt
+some_there None p e = absurd cc
+some_there (Some q) p e = refl
 
 module _ (own : BackTable) (backs : List BackTable) (side : Colour) (p : Board) where
   pub ends_inside : (number : ℕ) → number ≡ Num own.table.rules.groups p →

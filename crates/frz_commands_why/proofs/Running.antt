@@ -299,16 +299,16 @@ module _ (there : WayThere) (table : List ℕ) (behind : List (List ℕ))
         → Begun job files left start mid
     some = begun r.held r.helds k r.within no_steps
 
-    may_end : (T : Type 0) (f : AtlasFault) → IsUnopened r.held r.helds f
-        → HasAtlasCause {T = T} (Err f) old new → MayEndAt job f start mid
-    may_end T (Rules f) refused cause = absurd refused
-    may_end T (Table f) refused cause =
+    may_end : (f : AtlasFault) → IsUnopened r.held r.helds f
+        → HasAtlasCause {T = ℕ} (Err f) old new → MayEndAt job f start mid
+    may_end (Rules f) refused cause = absurd refused
+    may_end (Table f) refused cause =
         (table_own f job.statuses refl refl, fine_store old new input out before now cause)
-    may_end T (BackAt place (Refused f)) refused cause =
+    may_end (BackAt place (Refused f)) refused cause =
         (table_own f job.statuses refl refl, fine_store old new input out before now cause)
-    may_end T (BackAt place (Wrong wrong)) refused cause = absurd refused
-    may_end T Failed refused cause = (refl, cause)
-    may_end T NoMemory refused cause = refl
+    may_end (BackAt place (Wrong wrong)) refused cause = absurd refused
+    may_end Failed refused cause = (refl, cause)
+    may_end NoMemory refused cause = refl
 
     answers_at : (f : AtlasFault) → IsUnopened r.held r.helds f → (files : Files)
         (left : List ℕ) → Agrees start files left → AnswersAt job f files left start mid
@@ -329,10 +329,10 @@ module _ (there : WayThere) (table : List ℕ) (behind : List (List ℕ))
     answers_at Failed refused files left agrees = some files left agrees
     answers_at NoMemory refused files left agrees = some files left agrees
 
-    pub refused_so : (T : Type 0) (end : End) (after : SinkTold)
-        → HasAtlasCause {T = T} (Err fault) old new → EndsAt fault end out after
+    pub refused_so : (end : End) (after : SinkTold)
+        → HasAtlasCause {T = ℕ} (Err fault) old new → EndsAt fault end out after
         → Ran job end start (world new input after now)
-    refused_so T end after cause ends =
+    refused_so end after cause ends =
         ended_at job end start mid after (quiet_both old new input out before now quiet later) fault
-        (may_end T fault r.refuses cause) ends
+        (may_end fault r.refuses cause) ends
         (λ files left agrees. answers_at fault r.refuses files left agrees)

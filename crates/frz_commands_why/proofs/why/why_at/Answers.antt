@@ -25,5 +25,5 @@ pub returns-in-Err : goal.returns-in-Err
 returns-in-Err g c = λ input.
     let e = c.in-Err.ensures in
     refused_so c.one_failing_way.ensures.there c.args.table.now _ c.requires.apart c.args.side
-    c.args.p.now _ _ _ _ e.quiet (omega arith) input _ c.in-Err.fault e.refused (omega arith) _ _ _
+    c.args.p.now _ _ _ _ e.quiet (omega arith) input _ c.in-Err.fault e.refused (omega arith) _ _
     e.cause c.end_at.ensures
