@@ -10,8 +10,7 @@ use Rattle.frz_sets.specs.Views.{ExitLine, RuleLines}
 use Rattle.frz_exits.specs.Books.{value_by}
 use Rattle.frz_exits.specs.Fitting.{line_at}
 use Rattle.frz_exits.proofs.Lemmas.{first_fits, none_fits}
-use Rattle.frz_index.specs.Membership.{is_member, number_of}
-use Rattle.frz_index.specs.Members.{Num}
+use Rattle.frz_index.specs.Membership.{is_member}
 use Rattle.frz_index.proofs.Lemmas.{number_missing, number_there}
 use Rattle.frz_rules.specs.Text.{rules_of}
 use Rattle.frz_chain.specs.Books.{Back, back_value, or_else, told_at}
@@ -20,10 +19,8 @@ use Rattle.frz_backs.proofs.Lemmas.{front_tells, none_tell}
 use Rattle.frz_exit_lines.specs.Numbers.{exit_numbers_of}
 use Rattle.frz_exit_lines.specs.Saying.{exit_on_line}
 use Rattle.frz_exit_lines.proofs.Lemmas.{as_many_lines, said_there}
-use Rattle.frz_commands_why.specs.declared.decider.Decider.{Decider}
-use Rattle.frz_commands_why.specs.declared.decider.Decider.TheVariants.{Line, Behind, NoLine}
 use Rattle.frz_exits.specs.Values.{is_unknown}
-use Rattle.frz_commands_why.specs.Deciders.{asked_back, back_at, decider_by, decider_of, number_at}
+use Rattle.frz_commands_why.specs.Deciders.{back_at, decider_by, decider_of, number_at}
 use Rattle.frz_commands_why.specs.Decides.{Decides, line, behind, none}
 
 unknown_is : (v : Value) → is_unknown v ≡ true → v ≡ Unknown

@@ -12,15 +12,13 @@ use Rattle.frz_board.specs.Attacks.{is_in_check}
 use Rattle.frz_fide.specs.Legal.{after}
 use Rattle.frz_fide.specs.Listing.{legal_moves_of}
 use Rattle.frz_sets.specs.declared.exit.Value.{Value}
-use Rattle.frz_sets.specs.Views.{GroupLine, RuleLines}
-use Rattle.frz_index.specs.Members.{Num}
+use Rattle.frz_sets.specs.Views.{RuleLines}
 use Rattle.frz_sets.specs.Sets.{size_of}
-use Rattle.frz_index.proofs.Lemmas.{Num_below, member_of, number_there, of_member, position_of, position_tells}
+use Rattle.frz_index.proofs.Lemmas.{Num_below, member_of, number_there, position_of, position_tells}
 use Rattle.frz_arena.specs.declared.arm.Arm.{Arm}
 use Rattle.frz_arena.specs.declared.arm.Next.{Next}
 use Rattle.frz_arena.specs.declared.arm.Next.TheVariants.{Inside, Outside}
-use Rattle.frz_arena.specs.declared.node.Node.{Node}
-use Rattle.frz_arena.specs.declared.node.Node.TheVariants.{Broken, Mate, Stalemate, Going}
+use Rattle.frz_arena.specs.declared.node.Node.TheVariants.{Stalemate, Going}
 use Rattle.frz_arena.specs.Arena.{Arena}
 use Rattle.frz_arena.specs.Codes.{is_win}
 use Rattle.frz_arena.specs.Games as games
@@ -34,7 +32,7 @@ use Rattle.frz_game.specs.Numbers.{is_member, numbers_by, position_at}
 use Rattle.frz_game.specs.declared.wrong.Wrong.{Wrong as WrongEntry}
 use Rattle.frz_game.proofs.Lemmas.{arms_there, table_exact}
 use Rattle.frz_reasons.specs.declared.denial.Denial.{Denial}
-use Rattle.frz_reasons.specs.Denials.{DeniesWin, first_denying, first_wrong, is_denied, leads_right, other_denial, other_denials, own_denial, own_denials, reply_to, wrong_behind, wrong_entry, wrong, own, other, stalemate}
+use Rattle.frz_reasons.specs.Denials.{DeniesWin, first_denying, first_wrong, is_denied, leads_right, other_denial, own_denial, reply_to, wrong_behind, wrong_entry, wrong, own, other, stalemate}
 use Rattle.frz_reasons.specs.LocalEntries.{Agrees, given_at}
 use Rattle.frz_commands_why.specs.Denying.{AreDenials, denying_moves, wins_behind}
 

@@ -1,5 +1,5 @@
 -- A position by its place in the set of a loaded table.
-use Rattle.std.proofs.Common.{◌≡◌, ◌⊎◌, ℕ, ◌≤◌, ◌<◌, ◌^◌, ◌+◌, List, Bool, true, false, Option, Some, None, Result, Ok, Err, inl, inr, length, refl, sym, ap, subst, ◌∙◌, slice_index, arith}
+use Rattle.std.proofs.Common.{◌≡◌, ◌⊎◌, ℕ, ◌≤◌, ◌<◌, ◌^◌, ◌+◌, List, Bool, Option, Some, None, Ok, Err, length, refl, sym, subst, slice_index, arith}
 use Rattle.std.specs.Prelude.{IsSome, MatchBool, if◌then◌else◌}
 use Rattle.frz_board.specs.Boards.{Board}
 use Rattle.frz_board.specs.declared.man.Colour.{Colour}
@@ -7,7 +7,7 @@ use Rattle.frz_fide.specs.Listing.{legal_moves_of}
 use Rattle.frz_sets.specs.Views.{GroupLine, RuleLines}
 use Rattle.frz_index.specs.Members.{Member, Num}
 use Rattle.frz_index.proofs.Lemmas.{of_member, position_of}
-use Rattle.frz_game.specs.Numbers.{is_member, position_at}
+use Rattle.frz_game.specs.Numbers.{position_at}
 use Rattle.frz_rules.specs.Text.{rules_of}
 use Rattle.frz_store.specs.Told.{SinkTold}
 use Rattle.frz_table.proofs.Lemmas.{read_short}

@@ -1,5 +1,5 @@
 -- That `why` has one answer, which means what it is to mean.
-use Rattle.std.proofs.Common.{◌≡◌, refl, sym, ap, ◌∙◌, ℕ, List, [], Bool, true, false, Option, Result, Ok, Err}
+use Rattle.std.proofs.Common.{◌≡◌, sym, ap, ◌∙◌, ℕ, List, [], Bool, true, false, Option, Result, Ok, Err}
 use Rattle.std.specs.Prelude.{map, MatchBool}
 use Rattle.std.specs.Option.{unwrap_or}
 use Rattle.frz_board.specs.Boards.{Board}
@@ -27,7 +27,7 @@ use Rattle.frz_commands_line.proofs.Lemmas.{side_lawful}
 use Rattle.frz_commands_why.specs.Asking.{asking_at, asking_named, why_words}
 use Rattle.frz_commands_why.specs.Telling.{why_text}
 use Rattle.frz_commands_why.specs.Texts.{status_by}
-use Rattle.frz_commands_why.specs.WhyOf.{IsWhyAnswer, IsWhyAt, IsWhyBy, IsWhyOver, code_at, decider_behind, value_behind}
+use Rattle.frz_commands_why.specs.WhyOf.{IsWhyAnswer, IsWhyAt, IsWhyBy, code_at, decider_behind, value_behind}
 use Rattle.frz_commands_why.specs.Words.{WhyNames, is_same_file, why_names_of}
 use Rattle.frz_commands_why.proofs.OneTelling.{WayAlone, WayThere, told_once}
 use Rattle.frz_commands_why.proofs.Running.{some_at}

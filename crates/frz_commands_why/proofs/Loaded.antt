@@ -1,12 +1,10 @@
 -- A table and those behind it, of which one could not be loaded.
-use Rattle.std.proofs.Common.{◌≡◌, ℕ, ◌+◌, ◌<◌, ◌≤◌, List, length, Option, Some, Result, Err, arith}
-use Rattle.std.specs.Prelude.{sum_by}
+use Rattle.std.proofs.Common.{ℕ, ◌≤◌, List, length, Option, arith}
 use Rattle.frz_store.specs.Told.{StoreTold}
 use Rattle.frz_table.specs.declared.fault.TableFault.{TableFault}
 use Rattle.frz_table.specs.declared.fault.TableFault.TheVariants.{Missing, Magic, Truncated, Extra, Rules, Size, Failed, NoMemory}
-use Rattle.frz_table.specs.Opening.{Contents, Refuses}
+use Rattle.frz_table.specs.Opening.{Refuses}
 use Rattle.frz_atlas.specs.Causes.{table_fault}
-use Rattle.frz_atlas.specs.Costs.{bytes_of, calls_of}
 use Rattle.frz_atlas.specs.Loading.{RefusesOne, WithinLoadingOne, opened_own}
 use Rattle.frz_atlas.specs.declared.fault.AtlasFault.{AtlasFault}
 use Rattle.frz_atlas.specs.declared.fault.AtlasFault.TheVariants as atlas

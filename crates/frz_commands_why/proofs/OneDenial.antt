@@ -1,5 +1,5 @@
 -- A hold is told of in exactly one way.
-use Rattle.std.proofs.Common.{◌≡◌, ◌≢◌, ◌⊎◌, ℕ, Bool, true, false, List, [], Option, None, Some, inl, inr, refl, sym, ap, ◌∙◌, slice_index, arith}
+use Rattle.std.proofs.Common.{◌≡◌, ◌⊎◌, ℕ, Bool, true, false, List, [], Option, None, Some, inl, inr, refl, sym, ap, ◌∙◌, slice_index, arith}
 use Rattle.std.specs.Prelude.{◌==◌, filter, if◌then◌else◌}
 use Rattle.std.proofs.lemmas.Bool.{eqb-false, eqb-true}
 use Rattle.frz_board.specs.declared.man.Colour.{Colour}
@@ -14,7 +14,7 @@ use Rattle.frz_arena.specs.LocalCodes.{all_codes, free_codes, node_code}
 use Rattle.frz_game.specs.declared.wrong.Wrong.{Wrong as WrongEntry}
 use Rattle.frz_reasons.specs.declared.denial.Denial.{Denial}
 use Rattle.frz_reasons.specs.Denials.{DeniesWin, first_wrong, other_denials, own_denials, wrong, own, other, stalemate}
-use Rattle.frz_reasons.specs.LocalEntries.{Agrees, Differs, given_at, wrong_at}
+use Rattle.frz_reasons.specs.LocalEntries.{Agrees, given_at, wrong_at}
 
 whose : (side mover : Colour) → (mover ≡ side) ⊎ (mover ≡ other_of side)
 whose White White = inl refl

@@ -1,5 +1,5 @@
 -- How `why` ends, by what was loaded of the tables and told of the position.
-use Rattle.std.proofs.Common.{◌≡◌, ◌⊎◌, refl, sym, ap, subst, ◌∙◌, ℕ, ◌+◌, ◌≤◌, List, [], ◌∷◌, ◌++◌, length, slice_index, Bool, true, false, Option, Some, None, Result, Ok, Err, inl, inr, arith}
+use Rattle.std.proofs.Common.{◌≡◌, ◌⊎◌, refl, sym, ap, subst, ◌∙◌, ℕ, ◌+◌, ◌≤◌, List, [], ◌∷◌, length, slice_index, Bool, true, false, Option, Some, None, Result, Ok, Err, inl, inr, arith}
 use Rattle.std.specs.Prelude.{map, MatchBool, if◌then◌else◌}
 use Rattle.std.specs.Option.{unwrap_or}
 use Rattle.frz_board.specs.Boards.{Board}
@@ -16,12 +16,12 @@ use Rattle.frz_table.specs.declared.fault.TableFault.{TableFault}
 use Rattle.frz_table.specs.Opening.{Contents, contents_of}
 use Rattle.frz_check.specs.Kept.{kept_codes}
 use Rattle.frz_chain.specs.Books.{Back}
-use Rattle.frz_chain.specs.FileOn.{back_of, loaded_back}
+use Rattle.frz_chain.specs.FileOn.{loaded_back}
 use Rattle.frz_chain.specs.declared.back.BackTable.{BackTable}
 use Rattle.frz_backs.specs.Links.{Link, value_over}
 use Rattle.frz_backs.specs.Loaded.{leans_as, link_loaded}
 use Rattle.frz_backs.proofs.Lemmas.{loaded_backs}
-use Rattle.frz_atlas.specs.Behind.{TableBytes, backs_in, leans, link_of}
+use Rattle.frz_atlas.specs.Behind.{TableBytes, backs_in, leans}
 use Rattle.frz_atlas.specs.Causes.{HasAtlasCause}
 use Rattle.frz_atlas.specs.Held.{all_held}
 use Rattle.frz_atlas.specs.Loading.{opened_all, opened_own}
@@ -36,7 +36,7 @@ use Rattle.frz_answer.specs.Ends.{Ran, Said}
 use Rattle.frz_answer.specs.Jobs.{Job, WithinCosts}
 use Rattle.frz_answer.specs.Statuses.{OneOf}
 use Rattle.frz_answer.specs.World.{World, world, Agrees, spent}
-use Rattle.frz_answer.proofs.Lemmas.{Begun, SaysAll, fine_store, quiet_both, said, stopped}
+use Rattle.frz_answer.proofs.Lemmas.{Begun, fine_store, quiet_both, said, stopped}
 use Rattle.frz_prelude.specs.Refusals.{refusal_line, status_of}
 use Rattle.frz_prelude.specs.declared.refused.Refused.TheVariants as refusals
 use Rattle.frz_prelude.proofs.Lemmas.{found_where, refusal_said, table_own}
@@ -50,8 +50,8 @@ use Rattle.frz_commands_why.specs.Deciders.{decider_of, leaning_on}
 use Rattle.frz_commands_why.specs.Ending.{EndsIn, EndsEarly, EndsLoaded, codes_loaded, stepping_in}
 use Rattle.frz_commands_why.specs.Loading.{IsUnopened, LoadsTables, RefusesTables, WithinOwn}
 use Rattle.frz_commands_why.specs.Telling.{EndsWhy, telling_steps, why_text}
-use Rattle.frz_commands_why.specs.Texts.{status_by, wrong_text}
-use Rattle.frz_commands_why.specs.WhyOf.{IsToldOf, IsWhyAnswer, IsWhyAt, IsWhyBehind, IsWhyBy, IsWhyOver, code_at, decider_behind, value_behind}
+use Rattle.frz_commands_why.specs.Texts.{status_by}
+use Rattle.frz_commands_why.specs.WhyOf.{IsWhyAnswer, IsWhyAt, IsWhyBy, IsWhyOver, code_at, decider_behind, value_behind}
 use Rattle.frz_commands_why.proofs.OneTelling.{WayThere, told_there}
 
 abbrev Opened : Type 0

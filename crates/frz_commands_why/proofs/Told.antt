@@ -1,5 +1,5 @@
 -- What was told of a number, from what was written piece by piece.
-use Rattle.std.proofs.Common.{◌≡◌, ◌≢◌, ℕ, ◌+◌, ◌%◌, ◌<◌, Bool, true, false, ◌&&◌, List, [], ◌++◌, slice_index, Option, None, Some, Result, Ok, Err, IfOk, IfSome, inl, inr, refl, sym, ap, subst, ◌∙◌, arith}
+use Rattle.std.proofs.Common.{◌≡◌, ◌≢◌, ℕ, ◌<◌, true, false, List, [], ◌++◌, slice_index, Option, None, Some, Result, Ok, Err, IfOk, IfSome, inl, inr, refl, sym, ap, subst, arith}
 use Rattle.std.specs.Prelude.{IsSome}
 use Rattle.std.specs.Result.{IsErr}
 use Rattle.std.proofs.lemmas.Bool.Decides.{nat_tests}
@@ -19,10 +19,8 @@ use Rattle.frz_arena.specs.Codes.{is_failure, is_win}
 use Rattle.frz_game.specs.Games.{graph_by}
 use Rattle.frz_game.specs.Numbers.{position_at}
 use Rattle.frz_game.specs.declared.wrong.Wrong.{Wrong as WrongEntry}
-use Rattle.frz_answer.specs.declared.end.End.{End}
 use Rattle.frz_answer.specs.declared.end.End.TheVariants.{Done, SinkFault}
 use Rattle.frz_answer.specs.declared.status.Status.{Status}
-use Rattle.frz_answer.specs.Ends.{Said}
 use Rattle.frz_answer.specs.Texts.{FailedWithin, TookText, WroteText}
 use Rattle.frz_answer.proofs.Lemmas.{failed_first, failed_next, took_next, took_nothing, wrote_next}
 use Rattle.frz_prelude.specs.BoundLines.{kept_line}
@@ -35,7 +33,7 @@ use Rattle.frz_reasons.specs.ReasonTexts.{denials_text, moves_text}
 use Rattle.frz_reasons.specs.TellingDenials.{TellsDenials}
 use Rattle.frz_reasons.specs.TellingFailures.{TellsFailure}
 use Rattle.frz_commands_why.specs.declared.decider.Decider.{Decider}
-use Rattle.frz_commands_why.specs.Telling.{EndsWhy, TellsBehind, TellsWhy, ToldAt, fails, holds, neither, why_text, wins}
+use Rattle.frz_commands_why.specs.Telling.{EndsWhy, TellsBehind, TellsWhy, ToldAt, fails, holds, neither, wins}
 use Rattle.frz_commands_why.specs.Texts.{LeavesLegally, end_text, status_by, wrong_in, wrong_text}
 
 -- a code that is neither 0, nor that of a hold or of a win, is that of a failure

@@ -1,17 +1,15 @@
 -- What the answers of `why` mean.
-use Rattle.std.proofs.Common.{◌≡◌, ◌≢◌, refl, sym, ap, subst, ◌∙◌, ℕ, ◌+◌, ◌*◌, ◌-◌, ◌/◌, ◌≤◌, Bool, true, false, List, [], ◌∷◌, ◌++◌, length, Option, Some, None, Result, Ok, Err, append-nil, append_assoc, slice_index, arith}
+use Rattle.std.proofs.Common.{◌≡◌, refl, sym, ap, subst, ◌∙◌, ℕ, ◌+◌, ◌*◌, ◌-◌, ◌/◌, Bool, true, false, List, [], ◌++◌, length, Option, Some, None, Result, Ok, Err, append-nil, slice_index, arith}
 use Rattle.std.specs.Prelude.{map, MatchBool}
 use Rattle.std.specs.Option.{unwrap_or}
 use Rattle.std.proofs.lemmas.Bool.Decides.{nat_tests}
 use Rattle.frz_board.specs.Boards.{Board}
-use Rattle.frz_board.specs.Men.{other_of}
 use Rattle.frz_board.specs.Moving.{Step}
 use Rattle.frz_board.specs.declared.man.Colour.{Colour}
-use Rattle.frz_sets.specs.Sets.{size_of}
 use Rattle.frz_sets.specs.declared.exit.Value.{Value}
 use Rattle.frz_sets.specs.Views.{RuleLines}
 use Rattle.frz_index.specs.Members.{Member, Num}
-use Rattle.frz_index.proofs.Lemmas.{Num_below, member_of, of_member, position_of}
+use Rattle.frz_index.proofs.Lemmas.{member_of, of_member, position_of}
 use Rattle.frz_rules.specs.Text.{rules_of}
 use Rattle.frz_arena.specs.declared.arm.Arm.{Arm}
 use Rattle.frz_arena.specs.declared.bound.Bound.{Bound}
@@ -21,11 +19,10 @@ use Rattle.frz_game.specs.Bounds.{IsTableOf}
 use Rattle.frz_game.specs.Games.{graph_by}
 use Rattle.frz_game.specs.Numbers.{is_member, position_at}
 use Rattle.frz_game.specs.declared.wrong.Wrong.{Wrong as WrongEntry}
-use Rattle.frz_game.proofs.Lemmas.{table_exact}
 use Rattle.frz_store.specs.Files.{Files, bytes_at}
 use Rattle.frz_table.specs.declared.fault.TableFault.{TableFault}
 use Rattle.frz_table.specs.declared.fault.TableFault.TheVariants as table_faults
-use Rattle.frz_table.specs.Opening.{Contents, opened, table_format}
+use Rattle.frz_table.specs.Opening.{Contents, table_format}
 use Rattle.frz_table.proofs.Lemmas.{belongs, opened_missing}
 use Rattle.frz_check.specs.Kept.{kept_codes}
 use Rattle.frz_check.specs.KeptTables.{KeepsBound, KeepsTables}
@@ -36,16 +33,13 @@ use Rattle.frz_backs.specs.Values.{atlas_value}
 use Rattle.frz_backs.proofs.Lemmas.{lines_alone}
 use Rattle.frz_atlas.specs.Behind.{TableBytes, kind_of, leans}
 use Rattle.frz_atlas.specs.Loading.{opened_all, opened_own}
-use Rattle.frz_atlas.specs.declared.fault.BackFault.TheVariants.{Refused}
 use Rattle.frz_answer.specs.declared.status.Status.{Status}
 use Rattle.frz_answer.specs.declared.status.Status.TheVariants as statuses
 use Rattle.frz_answer.specs.Answers.{Answer, says}
 use Rattle.frz_prelude.specs.BoundLines.{kept_line}
-use Rattle.frz_prelude.specs.Refusals.{refusal_line, status_of, table_status}
-use Rattle.frz_prelude.specs.TableCauses.{table_line}
+use Rattle.frz_prelude.specs.Refusals.{refusal_line, status_of}
 use Rattle.frz_prelude.specs.declared.refused.Refused.TheVariants as refusals
 use Rattle.frz_prelude.proofs.Lemmas.{by_table_status}
-use Rattle.frz_atlas_prelude.specs.BackLines.{back_line}
 use Rattle.frz_atlas_prelude.proofs.Lemmas.{not_both}
 use Rattle.frz_reasons.specs.declared.denial.Denial.{Denial}
 use Rattle.frz_reasons.specs.declared.reason.Reason.{Reason}
@@ -55,12 +49,12 @@ use Rattle.frz_reasons.specs.FailingGames.{EndsAt, HasLeft, IsGameFrom, IsRight,
 use Rattle.frz_reasons.specs.FailingWays.{FailsFrom}
 use Rattle.frz_reasons.specs.ReasonTexts.{denials_text, moves_text}
 use Rattle.frz_commands_why.specs.declared.decider.Decider.{Decider}
-use Rattle.frz_commands_why.specs.Deciders.{decider_of, leaning_on}
+use Rattle.frz_commands_why.specs.Deciders.{leaning_on}
 use Rattle.frz_commands_why.specs.Decides.{Decides}
-use Rattle.frz_commands_why.specs.Meaning.{MeansStatus, MeansWhy, Opens, TellsAll, TellsBound, TellsHold, TellsNone, TellsWin, TellsWrong, TellsRefusal, of_back, of_table, wins as wins_told, holds as hold_told, fails as failure_told}
+use Rattle.frz_commands_why.specs.Meaning.{MeansStatus, MeansWhy, Opens, TellsAll, TellsBound, TellsNone, of_back, of_table, wins as wins_told, holds as hold_told, fails as failure_told}
 use Rattle.frz_commands_why.specs.Telling.{ToldAt, fails, holds, neither, why_text, wins}
-use Rattle.frz_commands_why.specs.Texts.{end_text, position_after, status_by, wrong_in, wrong_text}
-use Rattle.frz_commands_why.specs.WhyOf.{IsToldOf, IsWhyAnswer, IsWhyAt, IsWhyBehind, IsWhyBy, IsWhyOver, backs_behind, code_at, decider_behind, value_behind}
+use Rattle.frz_commands_why.specs.Texts.{end_text, status_by, wrong_in}
+use Rattle.frz_commands_why.specs.WhyOf.{IsWhyAnswer, IsWhyAt, IsWhyBehind, IsWhyBy, backs_behind, code_at, decider_behind, value_behind}
 use Rattle.frz_commands_why.proofs.BestWay.{BestLaws, best_way}
 use Rattle.frz_commands_why.proofs.Deciders.{decides}
 use Rattle.frz_commands_why.proofs.DenialsTell.{denials_are, none_wrong}

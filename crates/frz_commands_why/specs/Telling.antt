@@ -1,5 +1,5 @@
 -- What `why` tells of a number of the set, by codes in memory.
-use Rattle.std.specs.Prelude.{◌≡◌, ◌+◌, ◌/◌, ℕ, true, List, [], ◌++◌, Option, None, Some, Result, IfOk, length, slice_index}
+use Rattle.std.specs.Prelude.{◌≡◌, ◌+◌, ◌/◌, ℕ, true, List, [], ◌++◌, Option, None, Some, Result, IfOk, slice_index}
 use Rattle.frz_board.specs.declared.man.Colour.{Colour}
 use Rattle.frz_board.specs.Boards.{Board}
 use Rattle.frz_board.specs.Moving.{Step}

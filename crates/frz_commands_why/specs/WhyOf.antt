@@ -1,6 +1,5 @@
 -- What `why TABLE FEN SIDE BACK ..` answers, by what the names hold. No file changes.
-use Rattle.std.specs.Prelude.{◌≡◌, ℕ, List, [], map, slice_index, MatchBool, Option, Result, Ok, Err}
-use Rattle.std.specs.Option.{unwrap_or}
+use Rattle.std.specs.Prelude.{◌≡◌, ℕ, List, map, slice_index, MatchBool, Option, Result, Ok, Err}
 use Rattle.frz_board.specs.declared.man.Colour.{Colour}
 use Rattle.frz_board.specs.Boards.{Board}
 use Rattle.frz_sets.specs.declared.exit.Value.{Value}

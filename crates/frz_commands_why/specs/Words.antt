@@ -1,5 +1,5 @@
 -- The words of `why`: a table, a position, a side, and the tables behind.
-use Rattle.std.specs.Prelude.{◌≡◌, ℕ, List, [], ◌∷◌, length, nat_lt, Bool, true, false, Option, Some, None, if◌then◌else◌}
+use Rattle.std.specs.Prelude.{◌≡◌, ℕ, List, ◌∷◌, length, nat_lt, Bool, true, false, Option, Some, None, if◌then◌else◌}
 use Rattle.frz_answer.specs.declared.words.Refusal.{Refusal}
 use Rattle.frz_answer.specs.declared.words.Refusal.TheVariants.{Count, SameName}
 use Rattle.frz_atlas_prelude.specs.Names.{has_twice}

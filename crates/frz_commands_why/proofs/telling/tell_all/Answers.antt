@@ -1,4 +1,4 @@
-use Rattle.std.proofs.Common.{ℕ, Option, Result, subst, slice_index}
+use Rattle.std.proofs.Common.{ℕ, Result, subst}
 use Rattle.std.specs.Prelude.{map}
 use Rattle.frz_store.specs.declared.outside.Failed.{Failed}
 use Rattle.frz_store.specs.Told.{sink_of}

@@ -1,4 +1,4 @@
-use Rattle.std.proofs.Common.{List, Option, Result, Err, sym, subst, ℕ}
+use Rattle.std.proofs.Common.{List, Option, Result, sym, subst}
 use Rattle.std.specs.Prelude.{map}
 use Rattle.frz_sets.specs.Views.{GroupLine}
 use Rattle.frz_store.specs.declared.outside.Failed.{Failed}
