@@ -142,6 +142,7 @@ fn why_in<O: Sink, L: Ledger>(
         Ok(number) => number,
         Err(why) => return Stop::Refused(why).end(out),
     };
+    // (that its text gives rules says how short it is)
     let _rules = own.table.rules();
     match exit_line_numbers(alloc, own.table.text()) {
         Ok(numbers) => tell_in(own, &numbers, backs, side, number, out, steps),
