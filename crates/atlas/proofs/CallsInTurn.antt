@@ -1,29 +1,25 @@
 -- One call after another: what the words of a call leave of its job where it ends well, and what is
 -- told then of a table that `check` found exact.
-use Rattle.std.proofs.Common.{◌≡◌, refl, sym, ap, subst, ◌∙◌, ℕ, List, [], ◌∷◌, length, Bool, true, false, Option, Some, None, Result, Ok, Err}
+use Rattle.std.proofs.Common.{◌≡◌, refl, sym, ap, subst, ◌∙◌, ℕ, List, [], ◌∷◌, length, Bool, true, false, Option, Some, None}
 use Rattle.std.specs.Prelude.{nat_lt, if◌then◌else◌}
-use Rattle.frz_board.specs.Boards.{Board}
 use Rattle.frz_fen.specs.Reading.{fen_of}
-use Rattle.frz_fen.specs.declared.fault.FenFault.{FenFault}
 use Rattle.frz_index.specs.Members.{Member}
 use Rattle.frz_store.specs.Bytes.{HoldsBytes}
 use Rattle.frz_store.specs.Files.{Files}
 use Rattle.frz_table.specs.declared.kind.FileKind.TheVariants.{Atlas}
-use Rattle.frz_table.specs.declared.fault.TableFault.{TableFault}
-use Rattle.frz_table.specs.Opening.{Contents, opened, table_format}
+use Rattle.frz_table.specs.Opening.{Contents}
 use Rattle.frz_backs.specs.Links.{backs_of}
 use Rattle.frz_backs.specs.Values.{atlas_value}
 use Rattle.frz_answer.specs.declared.status.Status.{Status}
-use Rattle.frz_answer.specs.declared.status.Status.TheVariants.{Success, Words, Fen, Table, Outside, Missing}
+use Rattle.frz_answer.specs.declared.status.Status.TheVariants.{Success, Words, Fen, Outside}
 use Rattle.frz_answer.specs.Statuses.{OneOf}
 use Rattle.frz_answer.specs.Answers.{Answer}
 use Rattle.frz_answer.specs.Jobs.{Job}
 use Rattle.frz_answer.specs.Words.{taking, unless}
-use Rattle.frz_prelude.specs.Positions.{on_position}
-use Rattle.frz_prelude.specs.TableFiles.{TellsFaultOfKind}
 use Rattle.frz_commands_ask.specs.Meaning.{TellsBounds}
 use Rattle.frz_commands_ask.specs.Querying as queries
 use Rattle.frz_commands_ask.specs.Querying.{MeansQuery, TellsKept, querying_at}
+use Rattle.frz_commands_ask.proofs.Lemmas.{at_position, query_answered}
 use Rattle.frz_atlas_prelude.specs.Names.{has_twice, table_names_of}
 use Rattle.frz_atlas_prelude.specs.declared.names.TheConstants.{MOST_BACKS}
 use Rattle.frz_commands_atlas.specs.AtlasHeadline.{AtlasHeadline}
@@ -47,41 +43,25 @@ these_names table (back ∷ backs) names e =
     by_count true e = cc
     by_count false e = cc
 
--- a word is refused with its own status, or it is taken
-module _ (files : Files) (input : List ℕ) (a : Answer) where
-  of_position : (P : Status → Type 0) → P Fen → (job : Board → Job) (x : Result Board FenFault)
-      → (on_position job x).answers files input a → (on_position job x).means files input a
-      → ((p : Board) → x ≡ Ok p → (job p).means files input a → P a.status) → P a.status
-  of_position P refused job (Ok p) answer means taken = taken p refl means
-  of_position P refused job (Err fault) answer means taken =
-      subst P (sym (ap (λ (x : Answer). x.status) answer)) refused
+-- with status 0 the words are taken
+module _ (files : Files) (input : List ℕ) (a : Answer) (done : a.status ≡ Success) where
+  never_refused : a.status ≡ Words → ⊥
+  never_refused e = let no : Words ≡ Success = sym e ∙ done in cc
 
-  -- with status 0 it is taken
-  module _ (done : a.status ≡ Success) where
-    never_refused : a.status ≡ Words → ⊥
-    never_refused e = let no : Words ≡ Success = sym e ∙ done in cc
+  pub of_words : {A : Type 0} → (job : A → Job) (x : Option A)
+      → (taking job x).answers files input a → (taking job x).means files input a
+      → (words : A) × (x ≡ Some words) × (job words).answers files input a
+      × (job words).means files input a
+  of_words job (Some words) answer means = (words, refl, answer, means)
+  of_words job None answer means =
+      absurd (never_refused (ap (λ (x : Answer). x.status) answer))
 
-    pub of_words : {A : Type 0} → (job : A → Job) (x : Option A)
-        → (taking job x).answers files input a → (taking job x).means files input a
-        → (words : A) × (x ≡ Some words) × (job words).answers files input a
-        × (job words).means files input a
-    of_words job (Some words) answer means = (words, refl, answer, means)
-    of_words job None answer means =
-        absurd (never_refused (ap (λ (x : Answer). x.status) answer))
-
-    pub of_names : (job : Job) (same : Bool)
-        → (unless same job).answers files input a → (unless same job).means files input a
-        → (same ≡ false) × job.answers files input a × job.means files input a
-    of_names job false answer means = (refl, answer, means)
-    of_names job true answer means =
-        absurd (never_refused (ap (λ (x : Answer). x.status) answer))
-
-    at_position : (job : Board → Job) (x : Result Board FenFault)
-        → (on_position job x).answers files input a → (on_position job x).means files input a
-        → (p : Board) × (x ≡ Ok p) × (job p).means files input a
-    at_position job x answer means =
-        of_position (λ s. s ≡ Success → (p : Board) × (x ≡ Ok p) × (job p).means files input a)
-        (λ e. cc) job x answer means (λ p is meant e. (p, is, meant)) done
+  pub of_names : (job : Job) (same : Bool)
+      → (unless same job).answers files input a → (unless same job).means files input a
+      → (same ≡ false) × job.answers files input a × job.means files input a
+  of_names job false answer means = (refl, answer, means)
+  of_names job true answer means =
+      absurd (never_refused (ap (λ (x : Answer). x.status) answer))
 
 -- what `check` with status 0 means
 pub check_headline : (table : List ℕ) (behind : List (List ℕ)) (files : Files) (a : Answer)
@@ -128,34 +108,8 @@ module _ (table : List ℕ) (behind : List (List ℕ)) (files : Files) (are : Ho
             b.text) (sym same) bounds;
       }
 
-  -- of the file nothing is refused
-  file_taken : (text : List ℕ) → TellsFaultOfKind Atlas table files text → ⊥
-  file_taken text refused =
-      let own = exact_opens table behind files exact in
-      let same : Some refused.bytes ≡ Some exact.bytes = sym refused.there ∙ own.there in
-      let bytes : refused.bytes ≡ exact.bytes = cc in
-      let no : ◌≡◌ {A = Result Contents TableFault} (Err refused.fault)
-      (Ok (record { text = exact.text; rules = exact.rules })) =
-      sym refused.refused ∙ ap (λ (l : List ℕ). opened (table_format Atlas) (Some l)) bytes
-      ∙ own.opens in
-      cc
-
-  never_missing : files table ≡ None → ⊥
-  never_missing none =
-      let no : Some exact.bytes ≡ None = sym exact.there ∙ none in cc
-
-  query_status : (p : Board) (s : Status) → queries.MeansStatus Atlas table p files s b.text
-      → OneOf s (Success ∷ Fen ∷ Outside ∷ [])
-  query_status p Success means = refl
-  query_status p Outside means = refl
-  query_status p Table means = absurd (file_taken b.text means)
-  query_status p Missing means = absurd (never_missing means)
-  query_status p s means = absurd means
-
   pub queried_well : (input : List ℕ) → (job_of (query table fen)).answers files input b
       → OneOf b.status (Success ∷ Fen ∷ Outside ∷ [])
   queried_well input answer =
-      of_position files input b (λ s. OneOf s (Success ∷ Fen ∷ Outside ∷ [])) refl
-      (querying_at Atlas table) (fen_of fen) answer
+      query_answered (exact_opens table behind files exact) (fen_of fen) input b answer
       ((query_lawful (table ∷ fen ∷ [])).means files input b are answer)
-      (λ p is means. query_status p b.status means.says)

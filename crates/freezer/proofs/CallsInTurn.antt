@@ -1,6 +1,6 @@
 -- One call after another: what the words of a call leave of its job where it ends well, and what is
 -- told then of a table that `check` or `chaincheck` found exact.
-use Rattle.std.proofs.Common.{◌≡◌, refl, sym, ap, subst, ◌∙◌, ℕ, zero, suc, List, [], ◌∷◌, Bool, true, false, Option, Some, None, Result, Ok, Err}
+use Rattle.std.proofs.Common.{◌≡◌, refl, sym, ap, subst, ◌∙◌, ℕ, zero, suc, List, [], ◌∷◌, Bool, true, false, Option, Some, None, Result, Ok}
 use Rattle.std.specs.Option.{unwrap_or}
 use Rattle.frz_board.specs.declared.man.Colour.{Colour}
 use Rattle.frz_board.specs.declared.man.Colour.TheVariants.{White, Black}
@@ -12,8 +12,7 @@ use Rattle.frz_index.specs.Members.{Member}
 use Rattle.frz_store.specs.Bytes.{HoldsBytes}
 use Rattle.frz_store.specs.Files.{Files}
 use Rattle.frz_table.specs.declared.kind.FileKind.TheVariants.{Plain, Chained}
-use Rattle.frz_table.specs.declared.fault.TableFault.{TableFault}
-use Rattle.frz_table.specs.Opening.{Contents, opened, table_format}
+use Rattle.frz_table.specs.Opening.{Contents}
 use Rattle.frz_check.specs.Kept.{kept_codes}
 use Rattle.frz_check.specs.KeptTables.{KeepsTables}
 use Rattle.frz_game.specs.Bounds.{IsTableOf}
@@ -31,12 +30,13 @@ use Rattle.frz_answer.specs.Jobs.{Job}
 use Rattle.frz_answer.specs.Lawful.{IsLawful}
 use Rattle.frz_answer.specs.Words.{unless}
 use Rattle.frz_prelude.specs.Positions.{on_position}
-use Rattle.frz_prelude.specs.TableFiles.{OpensAs, TellsTableFault}
+use Rattle.frz_prelude.specs.TableFiles.{OpensAs}
 use Rattle.frz_commands_ask.specs.Meaning.{TellsBounds}
 use Rattle.frz_commands_ask.specs.Querying as queries
 use Rattle.frz_commands_ask.specs.Querying.{TellsKept, MeansQuery, querying_at}
 use Rattle.frz_commands_ask.specs.Reporting as reports
 use Rattle.frz_commands_ask.specs.Reporting.{MeansReport, TellsReport}
+use Rattle.frz_commands_ask.proofs.Lemmas.{at_position, never_missing, never_refused, of_position, query_answered}
 use Rattle.frz_commands_chain.specs.ChainHeadline.{ChainHeadline}
 use Rattle.frz_commands_chain.specs.CheckMeans as chains
 use Rattle.frz_commands_chain.specs.CheckMeans.{MeansChainCheck, TellsExactOn}
@@ -58,13 +58,6 @@ use Rattle.freezer.specs.Calls.{check, chaincheck, chainquery, line, play, query
 
 -- a word is refused with its own status, or it is taken
 module _ (files : Files) (input : List ℕ) (a : Answer) where
-  of_position : (P : Status → Type 0) → P Fen → (job : Board → Job) (x : Result Board FenFault)
-      → (on_position job x).answers files input a → (on_position job x).means files input a
-      → ((p : Board) → x ≡ Ok p → (job p).means files input a → P a.status) → P a.status
-  of_position P refused job (Ok p) answer means taken = taken p refl means
-  of_position P refused job (Err fault) answer means taken =
-      subst P (sym (ap (λ (x : Answer). x.status) answer)) refused
-
   of_side : (P : Status → Type 0) → P Words → (job : Colour → Job) (x : Option Colour)
       → (on_side job x).answers files input a → (on_side job x).means files input a
       → ((side : Colour) → x ≡ Some side → (job side).answers files input a
@@ -81,13 +74,6 @@ module _ (files : Files) (input : List ℕ) (a : Answer) where
       let no : Words ≡ Success = sym (ap (λ (x : Answer). x.status) answer) ∙ done in cc
 
   -- with status 0 it is taken
-  at_position : a.status ≡ Success → (job : Board → Job) (x : Result Board FenFault)
-      → (on_position job x).answers files input a → (on_position job x).means files input a
-      → (p : Board) × (x ≡ Ok p) × (job p).means files input a
-  at_position done job x answer means =
-      of_position (λ s. s ≡ Success → (p : Board) × (x ≡ Ok p) × (job p).means files input a)
-      (λ e. cc) job x answer means (λ p is meant e. (p, is, meant)) done
-
   of_words : a.status ≡ Success → (job : Colour → Board → Job) (side : Option Colour)
       (x : Result Board FenFault)
       → (on_side (λ c. on_position (job c) x) side).answers files input a
@@ -98,7 +84,7 @@ module _ (files : Files) (input : List ℕ) (a : Answer) where
       of_side (λ s. s ≡ Success → (c : Colour) × (side ≡ Some c) × (p : Board) × (x ≡ Ok p)
       × (job c p).means files input a)
       (λ e. cc) (λ c. on_position (job c) x) side answer means
-      (λ c named given meant e. let at = at_position e (job c) x given meant in
+      (λ c named given meant e. let at = at_position files input a e (job c) x given meant in
       (c, named, at.0, at.1, at.2)) done
 
 -- what the law of squeezes says of one side
@@ -182,42 +168,20 @@ module _ (lawful : (later : ℕ → Files) (words : List (List ℕ))
         subst (λ (l : List ℕ). KeepsTables (value_by contents.rules) contents l) (sym same)
         (headline_tables table files exact bytes contents opens)
 
-    -- of the file nothing is refused
-    never_refused : (text : List ℕ) → TellsTableFault table files text → ⊥
-    never_refused text refused =
-        let own = headline_opens table files exact in
-        let same : Some refused.bytes ≡ Some exact.bytes = sym refused.there ∙ own.there in
-        let bytes : refused.bytes ≡ exact.bytes = cc in
-        let no : ◌≡◌ {A = Result Contents TableFault} (Err refused.fault)
-        (Ok (record { text = exact.text; rules = exact.rules })) =
-        sym refused.refused ∙ ap (λ (l : List ℕ). opened (table_format Plain) (Some l)) bytes
-        ∙ own.opens in
-        cc
-
-    never_missing : files table ≡ None → ⊥
-    never_missing none =
-        let no : Some exact.bytes ≡ None = sym exact.there ∙ none in cc
-
-    query_status : (p : Board) (s : Status) → queries.MeansStatus Plain table p files s b.text
-        → OneOf s (Success ∷ Fen ∷ Outside ∷ [])
-    query_status p Success means = refl
-    query_status p Outside means = refl
-    query_status p Table means = absurd (never_refused b.text means)
-    query_status p Missing means = absurd (never_missing means)
-    query_status p s means = absurd means
+    -- it opens, and nothing of the file is refused
+    own : OpensAs table files exact.bytes (record { text = exact.text; rules = exact.rules })
+    own = headline_opens table files exact
 
     pub queried_well : (fen input : List ℕ) → (job_of later (query table fen)).answers files input b
         → OneOf b.status (Success ∷ Fen ∷ Outside ∷ [])
     queried_well fen input answer =
-        of_position files input b (λ s. OneOf s (Success ∷ Fen ∷ Outside ∷ [])) refl
-        (querying_at Plain table) (fen_of fen) answer
+        query_answered own (fen_of fen) input b answer
         ((lawful later (query table fen)).means files input b are answer)
-        (λ p is means. query_status p b.status means.says)
 
     report_status : (s : Status) → reports.MeansStatus table files s b.text → s ≡ Success
     report_status Success means = refl
-    report_status Table means = absurd (never_refused b.text means)
-    report_status Missing means = absurd (never_missing means)
+    report_status Table means = absurd (never_refused own means)
+    report_status Missing means = absurd (never_missing own means)
     report_status s means = absurd means
 
     pub reported_well : (input : List ℕ) → (job_of later (report table)).answers files input b
@@ -244,8 +208,8 @@ module _ (lawful : (later : ℕ → Files) (words : List (List ℕ))
       line_status side p Wrong means =
           let has = means.has in
           absurd (means.not_exact (stays_exact now stays_now has.bytes has.contents has.open_file))
-      line_status side p Table means = absurd (never_refused b.text means)
-      line_status side p Missing means = absurd (never_missing means)
+      line_status side p Table means = absurd (never_refused own means)
+      line_status side p Missing means = absurd (never_missing own means)
       line_status side p s means = absurd means
 
       session_status : (side : Colour) (p : Board) (input : List ℕ) (s : Status)
@@ -257,8 +221,8 @@ module _ (lawful : (later : ℕ → Files) (words : List (List ℕ))
       session_status side p input Wrong means =
           let has = means.has in
           absurd (means.not_exact (stays_exact now stays_now has.bytes has.contents has.open_file))
-      session_status side p input Table means = absurd (never_refused b.text means)
-      session_status side p input Missing means = absurd (never_missing means)
+      session_status side p input Table means = absurd (never_refused own means)
+      session_status side p input Missing means = absurd (never_missing own means)
       session_status side p input s means = absurd means
 
       module _ (fen word : List ℕ) where

@@ -4,6 +4,7 @@ mod Entries
 mod Meaning
 mod SolveEnds
 mod KeptFiles
+mod QueryAnswered
 mod QueryMeans
 mod QueryEnds
 pub mod Lemmas

@@ -24,7 +24,7 @@ use Rattle.frz_answer.specs.declared.end.End.{End}
 use Rattle.frz_answer.specs.declared.end.End.TheVariants.{Stopped, SinkFault}
 use Rattle.frz_answer.specs.Statuses.{OneOf, subset}
 use Rattle.frz_answer.specs.Texts.{TookText, FailedWithin}
-use Rattle.frz_answer.specs.World.{World, world, Agrees, Quiet, Came, spent}
+use Rattle.frz_answer.specs.World.{World, world, Agrees, spent}
 use Rattle.frz_answer.specs.Answers.{Answer, says, behind, IsLines}
 use Rattle.frz_answer.specs.Jobs.{Job, WithinCosts}
 use Rattle.frz_answer.specs.Ends.{Ran, Said}
@@ -51,7 +51,7 @@ use Rattle.frz_journeys.specs.Arrivals.{Arrives, Finishes, StopsShort}
 use Rattle.frz_journeys.specs.Journeys.{IsJourney, Stage}
 use Rattle.frz_journeys.specs.JourneyTexts.{journey_text}
 use Rattle.frz_journeys.specs.Playing.{TellsJourney, turns_in}
-use Rattle.frz_commands_line.proofs.Lemmas.{by_member, cut_within, not_member, rest_after}
+use Rattle.frz_commands_line.proofs.Lemmas.{by_member, cut_within, lines_came, not_member, quiet_then, rest_after, unfailed_source}
 use Rattle.frz_commands_journeys.specs.Costs.{CostsAt, StepsBy, journey_costs}
 use Rattle.frz_commands_journeys.specs.Endings.{EndsJourney, answer_status, naming}
 use Rattle.frz_commands_journeys.specs.JourneyOf.{IsJourneyBy, IsPlayed, IsPlayedAt, IsPlayedBy, IsPlayedOver, heard_by, journey_answer, leaning, played_text}
@@ -149,9 +149,8 @@ module _ (player : Player) (table : List ℕ) (behind_it : List (List ℕ)) (p :
   abbrev old : World
   old = world store source out before
 
-  -- the input as it was left, with no fault yet
   abbrev between : World
-  between = world store (record { left = gone.left; faults = source.faults }) mid before
+  between = world store (unfailed_source source gone) mid before
 
   abbrev played : World
   played = world left gone mid now
@@ -199,39 +198,6 @@ module _ (player : Player) (table : List ℕ) (behind_it : List (List ℕ)) (p :
 
     abbrev HearsSo : Result WayEnd PlayFault → Type 0
     HearsSo answer = Hears player.opponent whole took answer source gone
-
-    came : (answer : Result WayEnd PlayFault) → HearsSo answer → TookText text out mid
-        → Came text took old between
-    came answer heard wrote = record {
-      later = record {
-        store = record {
-          asked = omega arith;
-          calls = omega arith;
-          faults = omega arith;
-          wants = omega arith;
-        };
-        input = omega arith;
-        out = (let e = wrote.faults in omega (arith, e));
-        steps = omega arith;
-      };
-      fine = record {
-        store = record { faults = refl; wants = refl };
-        input = refl;
-        out = wrote.faults;
-      };
-      store = record { files = refl; last = refl; room = refl };
-      took = heard.bytes.front;
-      left = heard.bytes.behind;
-      taken = wrote.taken;
-    }
-
-    quiet_between : source.faults ≤ gone.faults → Quiet between played
-    quiet_between fell = record {
-      later = record { store = quiet.later; input = fell; out = omega arith; steps = later };
-      store = quiet.unwritten;
-      left = refl;
-      taken = refl;
-    }
 
     module _ {place : Place} {answer : Result WayEnd PlayFault} (so : So place answer)
         (heard : HearsSo answer) where
@@ -353,7 +319,8 @@ module _ (player : Player) (table : List ℕ) (behind_it : List (List ℕ)) (p :
           → Ran (rest_after job text took) end between new → Ran job end old new
       after_stages end new wrote costs ran =
           after_lines job text took end old between new
-          (came answer heard wrote) lines refl (own_all player.opponent)
+          (lines_came text took store source gone out mid before wrote heard.bytes) lines refl
+          (own_all player.opponent)
           (none_taken whole took left_over answer source gone player.opponent heard)
           (λ m free agrees. record {
             found = found_first m free agrees;
@@ -371,7 +338,8 @@ module _ (player : Player) (table : List ℕ) (behind_it : List (List ℕ)) (p :
       all_told end wrote unfailed own said_it ended =
           after_stages end (world left gone taken now) wrote (λ m i a costs. costs)
           (said (rest_after job text took) (answer_status answer) (naming place answer) end between
-          played taken (quiet_between (omega (arith, unfailed)))
+          played taken
+          (quiet_then store left source gone mid before now quiet (omega (arith, unfailed)) later)
           (record { store = fine; input = unfailed; out = refl }) own said_it
           (λ m free agrees.
           let texts : text ++ naming place answer ≡ played_text player so.stages place answer =
@@ -390,7 +358,8 @@ module _ (player : Player) (table : List ℕ) (behind_it : List (List ℕ)) (p :
           → StopsShort player.side so.stages so.rest → Ran job (Stopped stops.Input) old played
       stopped_short wrote session failed short =
           after_stages (Stopped stops.Input) played wrote (λ m i a costs. costs)
-          (stopped (rest_after job text took) stops.Input between played (quiet_between failed.later)
+          (stopped (rest_after job text took) stops.Input between played
+          (quiet_then store left source gone mid before now quiet failed.later later)
           (ap takes_input session, failed.rose)
           (λ m free agrees.
           let at = so.final.place in

@@ -1,17 +1,20 @@
 -- A command that writes lines and takes input before its end is known.
-use Rattle.std.proofs.Common.{◌≡◌, refl, sym, ap, subst, ◌∙◌, ℕ, List, ◌++◌, drop, length, Bool, true, false, IsTrue, Option, Some, None}
+use Rattle.std.proofs.Common.{◌≡◌, refl, sym, ap, subst, ◌∙◌, ℕ, List, ◌++◌, ◌≤◌, drop, length, Bool, true, false, IsTrue, Option, Some, None, arith}
 use Rattle.std.specs.Prelude.{IfSome, ⊤}
 use Rattle.std.specs.Option.{option_map}
 use Rattle.std.proofs.Math.Seq.{drop-append_seam}
 use Rattle.frz_store.specs.Bytes.{MayBeHeld}
 use Rattle.frz_store.specs.Files.{Files}
+use Rattle.frz_store.specs.Told.{StoreTold, SourceTold, SinkTold, StoreQuiet}
 use Rattle.frz_answer.specs.declared.end.End.{End}
 use Rattle.frz_answer.specs.Statuses.{subset}
-use Rattle.frz_answer.specs.World.{World, Came, spent}
+use Rattle.frz_answer.specs.Texts.{TookText}
+use Rattle.frz_answer.specs.World.{World, world, Came, Quiet, spent}
 use Rattle.frz_answer.specs.Answers.{Answer, behind, IsLines}
 use Rattle.frz_answer.specs.Jobs.{Job}
 use Rattle.frz_answer.specs.Ends.{Ran}
-use Rattle.frz_answer.proofs.Lemmas.{Found, follows}
+use Rattle.frz_answer.proofs.Lemmas.{Found, follows, text_came}
+use Rattle.frz_ways.specs.SessionFaults.{TookBytes}
 use Rattle.frz_commands_line.proofs.Stages.{is_part}
 
 -- what is left to do of a job behind this text and these bytes
@@ -77,3 +80,40 @@ rest_left bytes rest input None mid split e h =
 rest_left bytes rest input (Some left) mid split e h =
     subst (λ (o : Option (List ℕ)). IfSome o (λ told. told ≡ rest)) (sym e)
     (ap (drop (length bytes)) (h ∙ sym split) ∙ drop-append_seam bytes rest)
+
+-- the input as it was left, with no fault yet
+abbrev pub unfailed_source : (source gone : SourceTold) → SourceTold
+unfailed_source source gone = record { left = gone.left; faults = source.faults }
+
+-- lines were written and bytes taken, and nothing else was done
+pub lines_came : (text bytes : List ℕ) (store : StoreTold) (source gone : SourceTold)
+    (out mid : SinkTold) (steps : ℕ) → TookText text out mid → TookBytes bytes source gone
+    → Came text bytes (world store source out steps)
+    (world store (unfailed_source source gone) mid steps)
+lines_came text bytes store source gone out mid steps wrote took =
+    let came = text_came text (world store source out steps) mid wrote in
+    let later = came.later in
+    record {
+      later = record {
+        store = later.store;
+        input = later.input;
+        out = later.out;
+        steps = later.steps;
+      };
+      fine = record { store = came.fine.store; input = refl; out = came.fine.out };
+      store = came.store;
+      took = took.front;
+      left = took.behind;
+      taken = came.taken;
+    }
+
+-- and then the store was used, and the input may have failed
+pub quiet_then : (store left : StoreTold) (source gone : SourceTold) (out : SinkTold)
+    (before now : ℕ) → StoreQuiet store left → source.faults ≤ gone.faults → before ≤ now
+    → Quiet (world store (unfailed_source source gone) out before) (world left gone out now)
+quiet_then store left source gone out before now quiet fell later = record {
+  later = record { store = quiet.later; input = fell; out = omega arith; steps = later };
+  store = quiet.unwritten;
+  left = refl;
+  taken = refl;
+}

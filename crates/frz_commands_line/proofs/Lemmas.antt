@@ -6,4 +6,4 @@ pub use Rattle.frz_commands_line.proofs.Later.{any_later}
 pub use Rattle.frz_commands_line.proofs.Lawful.{as_side, side_lawful}
 pub use Rattle.frz_commands_line.proofs.OutsideSet.{outside_ran}
 pub use Rattle.frz_commands_line.proofs.Stages.{is_part}
-pub use Rattle.frz_commands_line.proofs.InputTaken.{rest_after, rest_left}
+pub use Rattle.frz_commands_line.proofs.InputTaken.{lines_came, quiet_then, rest_after, rest_left, unfailed_source}

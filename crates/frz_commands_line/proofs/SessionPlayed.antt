@@ -14,7 +14,7 @@ use Rattle.frz_answer.specs.declared.end.End.{End}
 use Rattle.frz_answer.specs.declared.end.End.TheVariants.{Stopped, SinkFault}
 use Rattle.frz_answer.specs.Statuses.{OneOf}
 use Rattle.frz_answer.specs.Texts.{TookText, FailedWithin}
-use Rattle.frz_answer.specs.World.{World, world, Quiet, Came, Spent, spent, spent_by}
+use Rattle.frz_answer.specs.World.{World, world, Spent, spent, spent_by}
 use Rattle.frz_answer.specs.Answers.{Answer, says, behind, IsLines}
 use Rattle.frz_answer.specs.Jobs.{Job}
 use Rattle.frz_answer.specs.Ends.{MayMeet, Ran, Said}
@@ -44,7 +44,7 @@ use Rattle.frz_commands_line.proofs.OutsideSet.{outside_ran}
 use Rattle.frz_commands_line.proofs.KnownLine.{by_member}
 use Rattle.frz_commands_line.proofs.SessionSeen.{SessionThere, SessionSo, played_inside, played_outside, session_so}
 use Rattle.frz_commands_line.proofs.SessionTexts.{Answered, answered_at, never_cut}
-use Rattle.frz_commands_line.proofs.InputTaken.{rest_after, Split, found_in, after_lines, rest_left}
+use Rattle.frz_commands_line.proofs.InputTaken.{rest_after, Split, found_in, after_lines, lines_came, quiet_then, rest_left, unfailed_source}
 
 -- what was written of the session and taken of the input
 abbrev pub Played : Table → (later : ℕ → Files) → Colour → Board → Result SessionEnd PlayFault
@@ -79,12 +79,8 @@ module _ (there : SessionThere) (later_files : ℕ → Files) (table : Table) (s
   abbrev old : World
   old = world store source out before
 
-  -- the input as it was left, with no fault yet
-  abbrev unfailed_source : SourceTold
-  unfailed_source = record { left = gone.left; faults = source.faults }
-
   abbrev between : World
-  between = world store unfailed_source mid before
+  between = world store (unfailed_source source gone) mid before
 
   abbrev played : World
   played = world left gone mid now
@@ -104,38 +100,6 @@ module _ (there : SessionThere) (later_files : ℕ → Files) (table : Table) (s
         × TellsSession table.rules side (codes_later (contents_of table) held side) p
         whole took text
         result (spent_by store before) (spent_by left now)
-
-    came : TookText text out mid → Came text took old between
-    came wrote = record {
-      later = record {
-        store = record {
-          asked = omega arith;
-          calls = omega arith;
-          faults = omega arith;
-          wants = omega arith;
-        };
-        input = omega arith;
-        out = (let e = wrote.faults in omega (arith, e));
-        steps = omega arith;
-      };
-      fine = record {
-        store = record { faults = refl; wants = refl };
-        input = refl;
-        out = wrote.faults;
-      };
-      store = record { files = refl; last = refl; room = refl };
-      took = bytes.front;
-      left = bytes.behind;
-      taken = wrote.taken;
-    }
-
-    quiet_between : Quiet between played
-    quiet_between = record {
-      later = record { store = quiet.later; input = fell; out = omega arith; steps = later };
-      store = quiet.unwritten;
-      left = refl;
-      taken = refl;
-    }
 
     so_in : (result : Result SessionEnd PlayFault) → TellsIt result → Session result
     so_in result tells =
@@ -228,12 +192,12 @@ module _ (there : SessionThere) (later_files : ℕ → Files) (table : Table) (s
         → Tells side final result × (rest ≡ []) × (unread ≡ []))
         → Ran job end old (world left gone taken now)
     all_told result end tells took_text fine unfailed own said_it whole =
-        after_lines job text took end old between (world left gone taken now) (came took_text) lines
-        refl refl refl
+        after_lines job text took end old between (world left gone taken now)
+        (lines_came text took store source gone out mid before took_text bytes) lines refl refl refl
         (λ m agrees. split_in result tells m)
         (λ m i a costs. costs)
         (said (rest_after job text took) (session_status result) (session_naming result) end between
-        played taken quiet_between
+        played taken (quiet_then store left source gone mid before now quiet fell later)
         (record { store = fine; input = unfailed; out = refl }) own said_it
         (λ m i agrees.
         let so = so_in result tells in
@@ -277,11 +241,12 @@ module _ (there : SessionThere) (later_files : ℕ → Files) (table : Table) (s
         → StopsShort side final rest)
         → Ran job (Stopped fault) old played
     stopped_short result fault tells took_text meets short =
-        after_lines job text took (Stopped fault) old between played (came took_text) lines refl
-        refl refl
+        after_lines job text took (Stopped fault) old between played
+        (lines_came text took store source gone out mid before took_text bytes) lines refl refl refl
         (λ m agrees. split_in result tells m)
         (λ m i a costs. costs)
-        (stopped (rest_after job text took) fault between played quiet_between
+        (stopped (rest_after job text took) fault between played
+        (quiet_then store left source gone mid before now quiet fell later)
         (meets_rest fault meets)
         (λ m i agrees.
         let so = so_in result tells in

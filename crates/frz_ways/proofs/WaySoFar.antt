@@ -6,6 +6,7 @@ use Rattle.std.proofs.lemmas.Bool.Decides.{nat_tests}
 use Rattle.frz_board.specs.declared.man.Colour.{Colour}
 use Rattle.frz_board.specs.Moving.{Step}
 use Rattle.frz_sets.specs.declared.exit.Value.{Value}
+use Rattle.frz_store.specs.Files.{Files}
 use Rattle.frz_store.specs.Told.{SourceTold, SinkTold}
 use Rattle.frz_answer.specs.Answers.{IsLines}
 use Rattle.frz_answer.specs.Texts.{TookText}
@@ -16,6 +17,7 @@ use Rattle.frz_arena.specs.Arena.{Arena}
 use Rattle.frz_ways.specs.Costs.{way_numbers, SpendsAt}
 use Rattle.frz_ways.specs.Kept.{MayRead}
 use Rattle.frz_ways.proofs.CodesGathered.{any_read}
+use Rattle.frz_ways.proofs.CodesKept.{may_before}
 use Rattle.frz_ways.proofs.ReadBefore.{and_now, before_is, now_is, now_may}
 use Rattle.frz_ways.proofs.Spending.{came_on, nothing_spent, spends_last, spends_on}
 use Rattle.frz_ways.specs.declared.way_end.Finish.{Finish}
@@ -255,13 +257,16 @@ WayWrote known size arena opponent side start code first last result source left
     × ((kept : ℕ → List ℕ) → ((k : ℕ) → kept (suc k) ≡ read k)
     → Plays arena opponent side kept start code first last bytes text result before now))
 
--- what was read in a turn
-abbrev pub TurnRead : Option (List ℕ) → (size : ℕ) → Arena Step ℕ Value → Opponent → Colour → Cursor
-    → (old new : Reader) → (more next : List ℕ) → Result Turn PlayFault → Type 0
-TurnRead known size arena opponent side cursor old new more next result =
-    (now : List ℕ) × MayRead known size now
+-- what a turn wrote and took, and what was read in it
+abbrev pub TurnWrote : Option (List ℕ) → (size : ℕ) → Arena Step ℕ Value → Opponent → Colour
+    → Cursor → (old new : Reader) → Result Turn PlayFault → (source left : SourceTold)
+    → (out taken : SinkTold) → Type 0
+TurnWrote known size arena opponent side cursor old new result source left out taken =
+    (text bytes : List ℕ) × IsLines text × WroteBy result text out taken
+    × TookBytes bytes source left × StaysEnded old new bytes
+    × ((now : List ℕ) × MayRead known size now
     × ((kept : ℕ → List ℕ) → kept (suc cursor.played) ≡ now
-    → GoesBy arena opponent side kept cursor old new more next result)
+    → GoesBy arena opponent side kept cursor old new bytes text result))
 
 over_wrote : (answer : Result Finish PlayFault) (text : List ℕ) (old new : SinkTold)
     → WroteBy (finishes_by answer) text old new → WroteBy answer text old new
@@ -292,96 +297,95 @@ stays_on first old new bytes more before now = λ e.
     let n = now b.1 in
     (ap (λ (l : List ℕ). l ++ more) b.0 ∙ n.0, n.1)
 
--- one turn more, which left the reader so
-module _ {known : Option (List ℕ)} {size : ℕ} {arena : Arena Step ℕ Value} {opponent : Opponent}
-    {side : Colour} {start code : ℕ} {first : Reader}
-    {cursor : Cursor} {old : Reader} (new : Reader) {source mid left : SourceTold}
-    {out between : SinkTold} (taken : SinkTold) {before now after : Spent}
-    (far : SoFar known size arena opponent side start code first cursor old source mid out between
-    before now) (few : SpendsAt arena 0 (cursor.number ∷ []) now after) (next more : List ℕ)
-    (lines : IsLines next) (took : TookBytes more mid left) (stays : StaysEnded old new more) where
+-- one turn more, which left the reader so and was played by the same files
+module _ (known : Option Files → Option (List ℕ)) {files now_files : Option Files} {size : ℕ}
+    {arena : Arena Step ℕ Value} {opponent : Opponent} {side : Colour} {start code : ℕ}
+    {first : Reader} {cursor : Cursor} {old : Reader} (new : Reader)
+    {source mid : SourceTold} (left : SourceTold) {out between : SinkTold} (taken : SinkTold)
+    {before now after : Spent} (same : now_files ≡ files)
+    (far : SoFar (known files) size arena opponent side start code first cursor old source mid out
+    between before now) (few : SpendsAt arena 0 (cursor.number ∷ []) now after) where
+  abbrev Turned : Result Turn PlayFault → Type 0
+  Turned result =
+      TurnWrote (known now_files) size arena opponent side cursor old new result mid left between
+      taken
+
+  abbrev Wrote : Result Finish PlayFault → Type 0
+  Wrote answer =
+      WayWrote (known files) size arena opponent side start code first new answer source left out
+      taken before after
+
+  -- what may be read after each ply
+  all_may : (read : List ℕ) → MayRead (known now_files) size read → (k : ℕ)
+      → MayRead (known files) size (and_now far.read cursor.played read k)
+  all_may read may =
+      now_may (known files) size far.read cursor.played read far.may
+      (may_before known size read same may)
+
   -- a ply was played
-  pub next_far : {turn : Turn} {number read : ℕ} → turn ≡ On number read
-      → TookText next between taken
-      → TurnRead known size arena opponent side cursor old new more next (Ok turn)
-      → SoFar known size arena opponent side start code first
+  pub next_far : {turn : Turn} {number read : ℕ} → turn ≡ On number read → Turned (Ok turn)
+      → SoFar (known files) size arena opponent side start code first
       (record { number = number; code = read; played = cursor.played + 1 }) new source left out taken
       before after
-  next_far {turn} {number} {read} on wrote goes =
+  next_far {turn} {number} {read} on w =
       let there : Cursor = record { number = number; code = read; played = cursor.played + 1 } in
+      let goes = w.6 in
       record {
-        text = far.text ++ next;
-        bytes = far.bytes ++ more;
-        lines = lines_behind far.text next far.lines lines;
-        wrote = took_behind far.text next (far.text ++ next) out between taken far.wrote refl wrote;
-        took = took_on far.bytes more source mid left far.took took;
-        stays = stays_on first old new far.bytes more far.stays stays;
+        text = far.text ++ w.0;
+        bytes = far.bytes ++ w.1;
+        lines = lines_behind far.text w.0 far.lines w.2;
+        wrote = took_behind far.text w.0 (far.text ++ w.0) out between taken far.wrote refl w.3;
+        took = took_on far.bytes w.1 source mid left far.took w.4;
+        stays = stays_on first old new far.bytes w.1 far.stays w.5;
         numbers = far.numbers ++ cursor.number ∷ [];
         spent = spends_on arena far.numbers (cursor.number ∷ []) before now after far.spent few;
         read = and_now far.read cursor.played goes.0;
-        may = now_may known size far.read cursor.played goes.0 far.may goes.1;
-        comes = λ kept same.
+        may = all_may goes.0 goes.1;
+        comes = λ kept alike.
             after_ply arena opponent side kept start code first.more cursor there old new far.numbers
-            far.bytes more far.text next refl stays (far.comes kept (λ k l. same k (omega (arith, l))
+            far.bytes w.1 far.text w.0 refl w.5 (far.comes kept (λ k l. alike k (omega (arith, l))
             ∙ before_is far.read cursor.played goes.0 k l))
-            (subst (λ (t : Turn). GoesBy arena opponent side kept cursor old new more next (Ok t)) on
-            (goes.2 kept (same cursor.played (omega arith)
+            (subst (λ (t : Turn). GoesBy arena opponent side kept cursor old new w.1 w.0 (Ok t)) on
+            (goes.2 kept (alike cursor.played (omega arith)
             ∙ now_is far.read cursor.played goes.0)));
       }
 
   last_far : (answer : Result Finish PlayFault) → IsFrom cursor.number answer
-      → WroteBy (finishes_by answer) next between taken
-      → TurnRead known size arena opponent side cursor old new more next (finishes_by answer)
-      → WayWrote known size arena opponent side start code first new answer source left out taken
-      before after
-  last_far answer from wrote goes = (
-    far.text ++ next,
-    far.bytes ++ more,
-    lines_behind far.text next far.lines lines,
-    wrote_after far.text next answer out between taken far.wrote
-        (over_wrote answer next between taken wrote),
-    took_on far.bytes more source mid left far.took took,
-    stays_on first old new far.bytes more far.stays stays,
+      → Turned (finishes_by answer) → Wrote answer
+  last_far answer from w = let goes = w.6 in (
+    far.text ++ w.0,
+    far.bytes ++ w.1,
+    lines_behind far.text w.0 far.lines w.2,
+    wrote_after far.text w.0 answer out between taken far.wrote
+        (over_wrote answer w.0 between taken w.3),
+    took_on far.bytes w.1 source mid left far.took w.4,
+    stays_on first old new far.bytes w.1 far.stays w.5,
     (
       and_now far.read cursor.played goes.0,
-      now_may known size far.read cursor.played goes.0 far.may goes.1,
-      λ kept same.
+      all_may goes.0 goes.1,
+      λ kept alike.
           played_out arena opponent side kept start code cursor first old new far.numbers far.bytes
-          more far.text next answer before now after far.spent few stays from
-          (far.comes kept (λ k l. same k ∙ before_is far.read cursor.played goes.0 k l))
-          (goes.2 kept (same cursor.played ∙ now_is far.read cursor.played goes.0)),
+          w.1 far.text w.0 answer before now after far.spent few w.5 from
+          (far.comes kept (λ k l. alike k ∙ before_is far.read cursor.played goes.0 k l))
+          (goes.2 kept (alike cursor.played ∙ now_is far.read cursor.played goes.0)),
     ),
   )
 
   -- the way's end within the set
-  pub over_far : {turn : Turn} {end : WayEnd} → turn ≡ Over end
-      → TookText next between taken
-      → TurnRead known size arena opponent side cursor old new more next (Ok turn)
-      → WayWrote known size arena opponent side start code first new (Ok (Here end)) source left out
-      taken before after
-  over_far {turn} {end} over wrote goes =
-      last_far (Ok (Here end)) tt wrote
-      (subst (λ (t : Turn). TurnRead known size arena opponent side cursor old new more next (Ok t))
-      over goes)
+  pub over_far : {turn : Turn} {end : WayEnd} → turn ≡ Over end → Turned (Ok turn)
+      → Wrote (Ok (Here end))
+  over_far {turn} {end} over w =
+      last_far (Ok (Here end)) tt (subst (λ (t : Turn). Turned (Ok t)) over w)
 
   -- its end outside
-  pub out_far : {turn : Turn} {move : Step} {v : Value} → turn ≡ Out move v
-      → TookText next between taken
-      → TurnRead known size arena opponent side cursor old new more next (Ok turn)
-      → WayWrote known size arena opponent side start code first new
-      (Ok (Left cursor.number move v)) source left out taken before after
-  out_far {turn} {move} {v} out wrote goes =
-      last_far (Ok (Left cursor.number move v)) refl wrote
-      (subst (λ (t : Turn). TurnRead known size arena opponent side cursor old new more next (Ok t))
-      out goes)
+  pub out_far : {turn : Turn} {move : Step} {v : Value} → turn ≡ Out move v → Turned (Ok turn)
+      → Wrote (Ok (Left cursor.number move v))
+  out_far {turn} {move} {v} out w =
+      last_far (Ok (Left cursor.number move v)) refl (subst (λ (t : Turn). Turned (Ok t)) out w)
 
   -- a fault on its way
   pub fault_far : (fault : PlayFault) (result : Result Finish PlayFault)
-      → IsErrAnd result (λ e. e ≡ fault)
-      → WroteBy {T = Turn} (Err fault) next between taken
-      → TurnRead known size arena opponent side cursor old new more next (Err fault)
-      → WayWrote known size arena opponent side start code first new result source left out taken
-      before after
-  fault_far fault result is wrote goes =
-      fault_wrote known size arena opponent side start code first new source left out taken before
-      after fault result is (last_far (Err fault) tt wrote goes)
+      → IsErrAnd result (λ e. e ≡ fault) → Turned (Err fault) → Wrote result
+  fault_far fault result is w =
+      fault_wrote (known files) size arena opponent side start code first new source left out taken
+      before after fault result is (last_far (Err fault) tt w)

@@ -6,7 +6,6 @@ use Rattle.frz_ways.specs.declared.playing.Turn.{Turn}
 use Rattle.frz_ways.specs.declared.playing.Turn.TheVariants.{On}
 use Rattle.frz_ways.specs.Turns.{TurnsTo}
 use Rattle.frz_ways.proofs.Counting.{few_at_start, few_on, left_on, quiet_here}
-use Rattle.frz_ways.proofs.CodesKept.{may_before}
 use Rattle.frz_ways.proofs.WaySoFar.{at_start, next_far, out_far, over_far, fault_far}
 use Rattle.frz_ways.proofs.Spending.{at_one}
 use Rattle.frz_ways.proofs.way.play_way.Goals as goal
@@ -35,45 +34,27 @@ plies-init g c = record {
 
 pub returns-in_err-end-clause-wrote : goal.returns-in_err-end-clause-wrote
 returns-in_err-end-clause-wrote g c =
-    let arena = g.G.NumberedGame.arena c.args.game.now in
     let e = c.in_err-end.ensures in
-    let w = e.wrote in
-    fault_far c.turn.new.reader _ c.plies.invariant.far
-    (at_one arena c.plies.cursor.number e.asked e.calls e.step) w.0 w.1 w.2 w.4 w.5
-    c.in_err-end.field-0.0 c.from_residual.result c.from_residual.ensures.1 w.3 (
-      w.6.0,
-      may_before (λ f. g.T.KeptCodes.known c.args.table.now f c.args.player.side)
-          (g.T.KeptCodes.size c.args.table.now) w.6.0 c.plies.invariant.quiet.unwritten.files w.6.1,
-      w.6.2,
-    )
+    fault_far (λ f. g.T.KeptCodes.known c.args.table.now f c.args.player.side) c.turn.new.reader _ _
+    c.plies.invariant.quiet.unwritten.files c.plies.invariant.far
+    (at_one (g.G.NumberedGame.arena c.args.game.now) c.plies.cursor.number e.asked e.calls e.step)
+    c.in_err-end.field-0.0 c.from_residual.result c.from_residual.ensures.1 e.wrote
 
 pub returns-in-Over-clause-wrote : goal.returns-in-Over-clause-wrote
 returns-in-Over-clause-wrote g c =
-    let arena = g.G.NumberedGame.arena c.args.game.now in
     let e = c.in_ok-end.ensures in
-    let w = e.wrote in
-    over_far c.turn.new.reader _ c.plies.invariant.far
-    (at_one arena c.plies.cursor.number e.asked e.calls e.step) w.0 w.1 w.2 w.4 w.5
-    c.in-Over.is w.3 (
-      w.6.0,
-      may_before (λ f. g.T.KeptCodes.known c.args.table.now f c.args.player.side)
-          (g.T.KeptCodes.size c.args.table.now) w.6.0 c.plies.invariant.quiet.unwritten.files w.6.1,
-      w.6.2,
-    )
+    over_far (λ f. g.T.KeptCodes.known c.args.table.now f c.args.player.side) c.turn.new.reader _ _
+    c.plies.invariant.quiet.unwritten.files c.plies.invariant.far
+    (at_one (g.G.NumberedGame.arena c.args.game.now) c.plies.cursor.number e.asked e.calls e.step)
+    c.in-Over.is e.wrote
 
 pub returns-in-Out-clause-wrote : goal.returns-in-Out-clause-wrote
 returns-in-Out-clause-wrote g c =
-    let arena = g.G.NumberedGame.arena c.args.game.now in
     let e = c.in_ok-end.ensures in
-    let w = e.wrote in
-    out_far c.turn.new.reader _ c.plies.invariant.far
-    (at_one arena c.plies.cursor.number e.asked e.calls e.step) w.0 w.1 w.2 w.4 w.5
-    c.in-Out.is w.3 (
-      w.6.0,
-      may_before (λ f. g.T.KeptCodes.known c.args.table.now f c.args.player.side)
-          (g.T.KeptCodes.size c.args.table.now) w.6.0 c.plies.invariant.quiet.unwritten.files w.6.1,
-      w.6.2,
-    )
+    out_far (λ f. g.T.KeptCodes.known c.args.table.now f c.args.player.side) c.turn.new.reader _ _
+    c.plies.invariant.quiet.unwritten.files c.plies.invariant.far
+    (at_one (g.G.NumberedGame.arena c.args.game.now) c.plies.cursor.number e.asked e.calls e.step)
+    c.in-Out.is e.wrote
 
 pub plies-preserved : goal.plies-preserved
 plies-preserved g c =
@@ -83,7 +64,6 @@ plies-preserved g c =
     let side = c.args.player.side in
     let told = g.T.KeptCodes.told in
     let e = c.in_ok-end.ensures in
-    let w = e.wrote in
     let to : TurnsTo arena size opponent side c.plies.cursor c.plies.reader c.turn.new.reader
     (On c.in-On.number c.in-On.code) =
     subst (λ (t : Turn). TurnsTo arena size opponent side c.plies.cursor c.plies.reader
@@ -95,15 +75,9 @@ plies-preserved g c =
       few = few_on arena side c.plies.cursor c.plies.reader c.turn.new.reader c.in-On.number
           c.in-On.code opponent to.2 c.plies.invariant.few;
       no_more = (let a = c.plies.invariant.no_more in let b = e.no_more in omega (arith, a, b));
-      far = next_far c.turn.new.reader _ c.plies.invariant.far
-          (at_one arena c.plies.cursor.number e.asked e.calls e.step) w.0 w.1 w.2 w.4 w.5 c.in-On.is
-          w.3 (
-            w.6.0,
-            may_before (λ f. g.T.KeptCodes.known c.args.table.now f side)
-                (g.T.KeptCodes.size c.args.table.now) w.6.0 c.plies.invariant.quiet.unwritten.files
-                w.6.1,
-            w.6.2,
-          );
+      far = next_far (λ f. g.T.KeptCodes.known c.args.table.now f side) c.turn.new.reader _ _
+          c.plies.invariant.quiet.unwritten.files c.plies.invariant.far
+          (at_one arena c.plies.cursor.number e.asked e.calls e.step) c.in-On.is e.wrote;
       unread = λ by. e.unread by ∙ c.plies.invariant.unread by;
       quiet = quiet_after (told c.args.store.now) (told c.plies.store) (told c.turn.new.store)
           c.plies.invariant.quiet e.quiet;
