@@ -28,4 +28,4 @@ pub use Rattle.frz_atlas_prelude.proofs.TablesOnce.{
   one_tables,
   with_table,
 }
-pub use Rattle.frz_atlas_prelude.proofs.NamesTaken.{as_all_named, as_file_named, as_named, ran_named, ran_refused}
+pub use Rattle.frz_atlas_prelude.proofs.NamesTaken.{ran_named, ran_refused}
