@@ -47,9 +47,9 @@ use Rattle.frz_atlas_prelude.specs.BackLines.{back_status}
 use Rattle.frz_atlas_prelude.specs.Ending.{EndsAt, HasSmallPlace}
 use Rattle.frz_atlas_prelude.specs.Names.{has_twice}
 use Rattle.frz_atlas_prelude.specs.Tables.{AreTablesIn}
-use Rattle.frz_atlas_prelude.proofs.Lemmas.{HoldingAll, ended_at, holding_all, judged_exact, may_hold_first, may_hold_there, place_refused, same_first, same_rest, without_second}
+use Rattle.frz_atlas_prelude.proofs.Lemmas.{HoldingAll, ended_at, held_rules, holding_all, judged_exact, may_hold_first, may_hold_there, place_refused, same_first, same_rest, without_second}
 use Rattle.frz_commands_atlas.specs.Building.{IsBuiltAt, build_costs, building_at, if_rules, made, no_back, no_rules, size_by}
-use Rattle.frz_commands_atlas.proofs.BuildOnce.{held_rules, some_build}
+use Rattle.frz_commands_atlas.proofs.BuildOnce.{some_build}
 
 -- each end has a status of `build`
 pub own_stop : (rules table : List ℕ) (behind : List (List ℕ)) (held : Option (List ℕ))
