@@ -1,18 +1,13 @@
 -- The lemmas that the crates above cite.
 pub use Rattle.frz_atlas_prelude.proofs.FaultEnds.{AnswersAt, MayEndAt, ended_at}
 pub use Rattle.frz_atlas_prelude.proofs.HeldNames.{
-  HoldingAll,
   as_many,
   first_alone,
-  holding_all,
   judged_exact,
   judged_over,
-  may_hold_first,
   may_hold_there,
   not_contained,
   place_below,
-  same_first,
-  same_rest,
   without_second,
 }
 pub use Rattle.frz_atlas_prelude.proofs.HeldTable.{Holds, holds}
