@@ -1,8 +1,6 @@
--- Each reason to refuse a table behind is said, and what opens is not refused.
+-- Each reason to refuse a table behind is said, and nothing is both accepted and refused.
 use Rattle.std.proofs.Common.{◌≡◌, sym, ◌∙◌, ℕ, [], Result, Ok, Err}
-use Rattle.frz_table.specs.declared.fault.TableFault.{TableFault}
 use Rattle.frz_table.specs.declared.fault.TableFault.TheVariants as table_faults
-use Rattle.frz_table.specs.Opening.{Contents}
 use Rattle.frz_atlas.specs.declared.fault.BackFault.{BackFault}
 use Rattle.frz_atlas.specs.declared.fault.BackFault.TheVariants.{Refused, Wrong}
 use Rattle.frz_atlas_prelude.specs.BackLines.{back_line}
@@ -18,7 +16,6 @@ back_said place (Refused table_faults.Failed) e = cc
 back_said place (Refused table_faults.NoMemory) e = cc
 back_said place (Wrong wrong) e = cc
 
-pub not_both : (x : Result Contents TableFault) (contents : Contents) (fault : TableFault)
-    → x ≡ Ok contents → x ≡ Err fault → ⊥
-not_both x contents fault e f =
-    (let same : ◌≡◌ {A = Result Contents TableFault} (Ok contents) (Err fault) = sym e ∙ f in cc)
+pub not_both : {A E : Type 0} (x : Result A E) (value : A) (fault : E)
+    → x ≡ Ok value → x ≡ Err fault → ⊥
+not_both x value fault e f = (let same : Ok value ≡ Err fault = sym e ∙ f in cc)

@@ -1,18 +1,13 @@
 -- The lemmas that the crates above cite.
 pub use Rattle.frz_atlas_prelude.proofs.FaultEnds.{AnswersAt, MayEndAt, ended_at}
 pub use Rattle.frz_atlas_prelude.proofs.HeldNames.{
-  HoldingAll,
   as_many,
   first_alone,
-  holding_all,
   judged_exact,
   judged_over,
-  may_hold_first,
   may_hold_there,
   not_contained,
   place_below,
-  same_first,
-  same_rest,
   without_second,
 }
 pub use Rattle.frz_atlas_prelude.proofs.HeldTable.{Holds, holds}
@@ -28,4 +23,5 @@ pub use Rattle.frz_atlas_prelude.proofs.TablesOnce.{
   one_tables,
   with_table,
 }
-pub use Rattle.frz_atlas_prelude.proofs.NamesTaken.{as_all_named, as_file_named, as_named, ran_named, ran_refused}
+pub use Rattle.frz_atlas_prelude.proofs.NamesTaken.{ran_named, ran_refused}
+pub use Rattle.frz_atlas_prelude.proofs.RulesAnswered.{held_rules, not_refused, one_refusal, some_answer}

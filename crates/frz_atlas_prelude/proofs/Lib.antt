@@ -1,6 +1,7 @@
 pub mod Lemmas
 mod BackRefused
 mod TablesOnce
+mod RulesAnswered
 mod HeldNames
 mod HeldTable
 mod SmallPlaces

@@ -1,5 +1,5 @@
 //! The names that the words of a command give: a file, and the tables behind it.
-ghost use Rattle.std.specs.Prelude.{◌≡◌, map, IfOk, IfErr};
+ghost use Rattle.std.specs.Prelude.{◌≡◌, ◌≤◌, ◌∷◌, length, map, false, IfOk, IfErr, IfSome};
 ghost use Rattle.std.specs.List.{list_any};
 ghost use Rattle.std.specs.Option.{option_map};
 ghost use Rattle.std.specs.Str.{bytes_eq};
@@ -15,8 +15,11 @@ pub const MOST_BACKS: usize = 16;
 
 /// The file's name, and the 0 to 16 names of the tables behind it; `None` for any other number.
 fn file_names(words: &[String]) -> Option<(&str, &[String])>
-    ensures { option_map (λ all. (all.0.now, map string_bytes all.1.now)) result
+    ensures named { option_map (λ all. (all.0.now, map string_bytes all.1.now)) result
         ≡ file_names_of (map string_bytes words.now) }
+    ensures words_are { IfSome result (λ all. map string_bytes words.now
+        ≡ all.0.now ∷ map string_bytes all.1.now) }
+    ensures few { IfSome result (λ all. length (map string_bytes all.1.now) ≤ MOST_BACKS) }
 {
     match words {
         [file, behind @ ..] if behind.len() <= MOST_BACKS => Some((file.as_str(), behind)),
@@ -26,8 +29,11 @@ fn file_names(words: &[String]) -> Option<(&str, &[String])>
 
 /// The table's name, and the 1 to 16 names of the tables behind it; `None` for any other number.
 pub fn table_names(words: &[String]) -> Option<(&str, &[String])>
-    ensures { option_map (λ all. (all.0.now, map string_bytes all.1.now)) result
+    ensures named { option_map (λ all. (all.0.now, map string_bytes all.1.now)) result
         ≡ table_names_of (map string_bytes words.now) }
+    ensures words_are { IfSome result (λ all. map string_bytes words.now
+        ≡ all.0.now ∷ map string_bytes all.1.now) }
+    ensures few { IfSome result (λ all. length (map string_bytes all.1.now) ≤ MOST_BACKS) }
 {
     match words {
         [table, behind @ ..] if !behind.is_empty() && behind.len() <= MOST_BACKS => {
@@ -40,8 +46,11 @@ pub fn table_names(words: &[String]) -> Option<(&str, &[String])>
 /// The rules file's name, the table's name, and the 1 to 16 names of the tables behind it; `None`
 /// for any other number.
 pub fn build_names(words: &[String]) -> Option<(&str, &str, &[String])>
-    ensures { option_map (λ all. (all.0.now, (all.1.now, map string_bytes all.2.now))) result
+    ensures named { option_map (λ all. (all.0.now, (all.1.now, map string_bytes all.2.now))) result
         ≡ build_names_of (map string_bytes words.now) }
+    ensures words_are { IfSome result (λ all. map string_bytes words.now
+        ≡ all.0.now ∷ all.1.now ∷ map string_bytes all.2.now) }
+    ensures few { IfSome result (λ all. length (map string_bytes all.2.now) ≤ MOST_BACKS) }
 {
     match words {
         [rules, rest @ ..] => match table_names(rest) {
@@ -77,6 +86,9 @@ pub fn has_twice(words: &[String]) -> bool
 pub fn different_names(words: &[String]) -> Result<(&str, &[String]), Refusal>
     ensures named { IfOk result (λ all. AreDifferent table_names_of (map string_bytes words.now)
         all.0.now (map string_bytes all.1.now)) }
+    ensures apart { IfOk result (λ all. names.has_twice (all.0.now ∷ map string_bytes all.1.now)
+        ≡ false) }
+    ensures few { IfOk result (λ all. length (map string_bytes all.1.now) ≤ MOST_BACKS) }
     ensures refused { IfErr result (DoNotName table_names_of (map string_bytes words.now)) }
 {
     match table_names(words) {
@@ -91,6 +103,9 @@ pub fn different_names(words: &[String]) -> Result<(&str, &[String]), Refusal>
 pub fn names_with_backs(words: &[String]) -> Result<(&str, &[String]), Refusal>
     ensures named { IfOk result (λ all. AreDifferent file_names_of (map string_bytes words.now)
         all.0.now (map string_bytes all.1.now)) }
+    ensures apart { IfOk result (λ all. names.has_twice (all.0.now ∷ map string_bytes all.1.now)
+        ≡ false) }
+    ensures few { IfOk result (λ all. length (map string_bytes all.1.now) ≤ MOST_BACKS) }
     ensures refused { IfErr result (DoNotName file_names_of (map string_bytes words.now)) }
 {
     match file_names(words) {

@@ -47,9 +47,9 @@ use Rattle.frz_atlas_prelude.specs.BackLines.{back_status}
 use Rattle.frz_atlas_prelude.specs.Ending.{EndsAt, HasSmallPlace}
 use Rattle.frz_atlas_prelude.specs.Names.{has_twice}
 use Rattle.frz_atlas_prelude.specs.Tables.{AreTablesIn}
-use Rattle.frz_atlas_prelude.proofs.Lemmas.{HoldingAll, ended_at, holding_all, judged_exact, may_hold_first, may_hold_there, place_refused, same_first, same_rest, without_second}
+use Rattle.frz_atlas_prelude.proofs.Lemmas.{Holds, ended_at, held_rules, holds, judged_exact, may_hold_there, place_refused, without_second}
 use Rattle.frz_commands_atlas.specs.Building.{IsBuiltAt, build_costs, building_at, if_rules, made, no_back, no_rules, size_by}
-use Rattle.frz_commands_atlas.proofs.BuildOnce.{held_rules, some_build}
+use Rattle.frz_commands_atlas.proofs.BuildOnce.{some_build}
 
 -- each end has a status of `build`
 pub own_stop : (rules table : List ℕ) (behind : List (List ℕ)) (held : Option (List ℕ))
@@ -133,25 +133,13 @@ module _ (rules table : List ℕ) (behind : List (List ℕ))
   text_is_accepted = text_read.due.1
 
   -- files that hold what the names may hold
-  record Holds (helds : List (Option (List ℕ))) : Type 0 where
-    pub all : HoldingAll old.files (rules ∷ behind) (Some text ∷ helds)
-    pub here : all.files rules ≡ Some text
-    pub others : map all.files behind ≡ helds
-
-  files_hold_tables : (helds : List (Option (List ℕ))) → MayHoldAll mid.files behind helds
-      → Holds helds
-  files_hold_tables helds may =
-      let first = subst (λ (x : Option (List ℕ)). MayHold old.files rules x) text_read.due.0
-      (may_hold_there old.files text_read.files rules text_read.agrees) in
-      let rest = subst (λ (o : Option Files). MayHoldAll o behind helds) quiet.unwritten.files may in
-      let all = holding_all old.files (rules ∷ behind) (Some text ∷ helds)
-      (without_second rules table behind apart)
-      (may_hold_first old.files rules (Some text) behind helds first rest) in
-      record {
-        all = all;
-        here = same_first (all.files rules) (Some text) (map all.files behind) helds all.hold;
-        others = same_rest (all.files rules) (Some text) (map all.files behind) helds all.hold;
-      }
+  holds_these_tables : (helds : List (Option (List ℕ))) → MayHoldAll mid.files behind helds
+      → Holds old.files rules behind (Some text) helds
+  holds_these_tables helds may =
+      holds old.files rules behind (without_second rules table behind apart) (Some text) helds
+      (subst (λ (x : Option (List ℕ)). MayHold old.files rules x) text_read.due.0
+      (may_hold_there old.files text_read.files rules text_read.agrees))
+      (subst (λ (o : Option Files). MayHoldAll o behind helds) quiet.unwritten.files may)
 
   module _ (input : SourceTold) (out : SinkTold) where
     abbrev start : World
@@ -160,7 +148,7 @@ module _ (rules table : List ℕ) (behind : List (List ℕ))
     abbrev done : World
     done = world new input out now
 
-    spends : (helds : List (Option (List ℕ))) (h : Holds helds)
+    spends : (helds : List (Option (List ℕ))) (h : Holds old.files rules behind (Some text) helds)
         → WithinBuilding text helds mid new before now
         → WithinCosts (build_costs (h.all.files rules) (map h.all.files behind)) (spent start)
         (spent done)
@@ -188,15 +176,16 @@ module _ (rules table : List ℕ) (behind : List (List ℕ))
         (subst (λ (x : Result RuleLines Refusal). WithinCosts (costs_by x (Some text) helds)
         (spent start) (spent done)) (sym (ap or_fault text_is_accepted)) by_lines))
 
-    abbrev found : (helds : List (Option (List ℕ))) (h : Holds helds) (files : Files)
-        (left : List ℕ) → Agrees start files left
-        → Found (building_at rules table behind) files left start
+    abbrev found : (helds : List (Option (List ℕ)))
+        (h : Holds old.files rules behind (Some text) helds) (files : Files) (left : List ℕ)
+        → Agrees start files left → Found (building_at rules table behind) files left start
     found helds h files left agrees =
         found_where (building_at rules table behind) h.all.files files left start (λ e. cc)
         h.all.agrees agrees
 
     -- the table is made
-    is_made : (helds : List (Option (List ℕ))) (h : Holds helds) (tables : List TableBytes)
+    is_made : (helds : List (Option (List ℕ)))
+        (h : Holds old.files rules behind (Some text) helds) (tables : List TableBytes)
         (bytes : List ℕ) (r : RuleLines) → rules_of text ≡ Ok r → helds ≡ all_held tables
         → AreTablesIn helds tables → IsFileOver text r (backs_in tables) bytes
         → IsBuiltAt rules table behind h.all.files
@@ -222,7 +211,7 @@ module _ (rules table : List ℕ) (behind : List (List ℕ))
         (built_line size) end after refl (wrote_after table b.bytes old mid new quiet b.written)
         (fine_after old mid new fine b.fine) full told
         (λ files left agrees.
-        let h = files_hold_tables (all_held b.tables) b.may_all in
+        let h = holds_these_tables (all_held b.tables) b.may_all in
         let whole = is_made (all_held b.tables) h b.tables b.bytes b.rules b.accepted refl
         (record { there = refl; exact = judged_exact [] b.tables b.exact }) b.one_file in
         record {
@@ -236,8 +225,8 @@ module _ (rules table : List ℕ) (behind : List (List ℕ))
 
     module _ (end : End) (after : SinkTold) (fault : AtlasFault)
         (r : RefusesToBuild text behind table mid new before now fault) where
-      abbrev h : Holds r.helds
-      h = files_hold_tables r.helds r.may_all
+      abbrev h : Holds old.files rules behind (Some text) r.helds
+      h = holds_these_tables r.helds r.may_all
 
       some : (files : Files) (left : List ℕ) → Agrees start files left
           → Begun (building_at rules table behind) files left start done

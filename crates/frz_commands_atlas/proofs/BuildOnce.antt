@@ -1,9 +1,8 @@
 -- That `build` has an answer, and only one, and what it means.
-use Rattle.std.proofs.Common.{◌≡◌, refl, sym, ap, subst, ◌∙◌, ℕ, List, [], Option, Some, None, Result, Ok, Err}
+use Rattle.std.proofs.Common.{◌≡◌, refl, sym, ap, subst, ◌∙◌, ℕ, List, [], Option, Some, Result, Ok}
 use Rattle.std.specs.Prelude.{map}
 use Rattle.frz_game.proofs.Lemmas.{table_one, table_there}
 use Rattle.frz_rules.specs.Text.{rules_of}
-use Rattle.frz_rules.specs.declared.fault.RulesFault.{RulesFault}
 use Rattle.frz_rules.proofs.Lemmas.{text_sound}
 use Rattle.frz_sets.specs.Sets.{size_of}
 use Rattle.frz_sets.specs.Views.{RuleLines}
@@ -16,16 +15,14 @@ use Rattle.frz_backs.proofs.Lemmas.{atlas_small}
 use Rattle.frz_answer.specs.declared.status.Status.TheVariants.{Success}
 use Rattle.frz_answer.specs.Answers.{Answer, says, SomeAnswer}
 use Rattle.frz_answer.specs.Lawful.{HasOneAnswer}
-use Rattle.frz_prelude.specs.Refusals.{refusal_line, status_of}
 use Rattle.frz_prelude.specs.Replies.{built_line}
-use Rattle.frz_prelude.specs.RulesFiles.{or_fault, rules_held}
+use Rattle.frz_prelude.specs.RulesFiles.{rules_held}
 use Rattle.frz_prelude.specs.declared.refused.Refused.{Refused as Refusal}
-use Rattle.frz_prelude.proofs.Lemmas.{refusal_said}
 use Rattle.frz_atlas.specs.Behind.{TableBytes, backs_in}
 use Rattle.frz_atlas.specs.FileOver.{IsFileOver}
-use Rattle.frz_atlas.specs.declared.fault.BackFault.{BackFault}
-use Rattle.frz_atlas_prelude.specs.BackLines.{back_line, back_status}
-use Rattle.frz_atlas_prelude.proofs.Lemmas.{AllFound, all_exact, all_found, back_said, never_refused, one_place, one_refused, one_tables}
+use Rattle.frz_atlas_prelude.specs.RulesRefusals.{Refuses, of_back, of_rules}
+use Rattle.frz_atlas_prelude.specs.Tables.{AreTablesIn}
+use Rattle.frz_atlas_prelude.proofs.Lemmas.{held_rules, not_refused, one_refusal, one_tables, some_answer}
 use Rattle.frz_commands_atlas.specs.Building.{IsBuiltAt, MakesAtlas, made, no_back, no_rules}
 
 -- there is one file over tables, and only one
@@ -45,36 +42,15 @@ one_over text lines tables bytes others one other =
     (table_one lines (atlas_value lines (backs_in tables))) (magic_of Atlas) text bytes others one
     other
 
-not_both : (x : Result RuleLines Refusal) (lines : RuleLines) (why : Refusal) → x ≡ Ok lines
-    → x ≡ Err why → ⊥
-not_both x lines why e f =
-    (let same : ◌≡◌ {A = Result RuleLines Refusal} (Ok lines) (Err why) = sym e ∙ f in cc)
-
--- the rules that a text that is there gives
-pub held_rules : (held : Option (List ℕ)) (text : List ℕ) (lines : RuleLines) → held ≡ Some text
-    → rules_of text ≡ Ok lines → rules_held held ≡ Ok lines
-held_rules held text lines there accepted = ap rules_held there ∙ ap or_fault accepted
-
 module _ (rules table : List ℕ) (behind : List (List ℕ)) (m : Files) where
   abbrev helds : List (Option (List ℕ))
   helds = map m behind
 
   -- there is an answer
-  by_behind : (text : List ℕ) (lines : RuleLines) → m rules ≡ Some text → rules_of text ≡ Ok lines
-      → AllFound [] helds → SomeAnswer (λ a. IsBuiltAt rules table behind m a)
-  by_behind text lines there accepted (one_refused place fault h) = record {
-    a = says (back_status fault) (back_line place fault) m;
-    answer = no_back (record {
-      lines = lines;
-      accepted = held_rules (m rules) text lines there accepted;
-      place = place;
-      fault = fault;
-      refused = h;
-      told = refl;
-    });
-    text = back_said place fault;
-  }
-  by_behind text lines there accepted (all_exact tables are h) =
+  over_exact : (text : List ℕ) (lines : RuleLines) (tables : List TableBytes) → m rules ≡ Some text
+      → rules_of text ≡ Ok lines → AreTablesIn helds tables
+      → SomeAnswer (λ a. IsBuiltAt rules table behind m a)
+  over_exact text lines tables there accepted exact =
       let over = file_over text lines tables accepted in record {
         a = says Success (built_line (size_of lines.groups)) (put m table over.0);
         answer = made (record {
@@ -83,7 +59,7 @@ module _ (rules table : List ℕ) (behind : List (List ℕ)) (m : Files) where
           lines = lines;
           accepted = accepted;
           tables = tables;
-          behind_it = record { there = are; exact = h };
+          behind_it = exact;
           bytes = over.0;
           one_file = over.1;
           told = refl;
@@ -91,26 +67,10 @@ module _ (rules table : List ℕ) (behind : List (List ℕ)) (m : Files) where
         text = λ e. cc;
       }
 
-  no_answer : (why : Refusal) → rules_held (m rules) ≡ Err why
-      → SomeAnswer (λ a. IsBuiltAt rules table behind m a)
-  no_answer why e = record {
-    a = says (status_of why) (refusal_line why) m;
-    answer = no_rules (record { why = why; refused = e; told = refl });
-    text = refusal_said why;
-  }
-
-  by_text : (text : List ℕ) → m rules ≡ Some text → (x : Result RuleLines RulesFault)
-      → rules_of text ≡ x → SomeAnswer (λ a. IsBuiltAt rules table behind m a)
-  by_text text there (Ok lines) e = by_behind text lines there e (all_found [] helds)
-  by_text text there (Err fault) e = no_answer _ (ap rules_held there ∙ ap or_fault e)
-
-  by_held : (held : Option (List ℕ)) → m rules ≡ held
-      → SomeAnswer (λ a. IsBuiltAt rules table behind m a)
-  by_held None e = no_answer _ (ap rules_held e)
-  by_held (Some text) e = by_text text e (rules_of text) refl
-
   pub some_build : SomeAnswer (λ a. IsBuiltAt rules table behind m a)
-  some_build = by_held (m rules) refl
+  some_build =
+      some_answer rules behind m (λ a. IsBuiltAt rules table behind m a) (λ a h. no_rules h)
+      (λ a h. no_back h) over_exact
 
   -- and only one
   read_made : (a : Answer) → (h : MakesAtlas rules table behind m a)
@@ -146,31 +106,20 @@ module _ (rules table : List ℕ) (behind : List (List ℕ)) (m : Files) where
         ∙ ap (λ (l : List ℕ). says Success (built_line (size_of h.lines.groups)) (put m table l))
         same_bytes ∙ sym h.told
 
+  unrefused : (a b : Answer) → MakesAtlas rules table behind m a → Refuses rules behind m b → ⊥
+  unrefused a b h k =
+      not_refused rules behind m h.text h.lines h.tables b h.there h.accepted h.behind_it k
+
   one_build : (a b : Answer) → IsBuiltAt rules table behind m a → IsBuiltAt rules table behind m b
       → b ≡ a
-  one_build a b (no_rules h) (no_rules k) =
-      let same : k.why ≡ h.why =
-      (let e : ◌≡◌ {A = Result RuleLines Refusal} (Err k.why) (Err h.why) = sym k.refused
-      ∙ h.refused in cc) in
-      k.told ∙ ap (λ (w : Refusal). says (status_of w) (refusal_line w) m) same ∙ sym h.told
-  one_build a b (no_rules h) (no_back k) =
-      absurd (not_both (rules_held (m rules)) k.lines h.why k.accepted h.refused)
-  one_build a b (no_rules h) (made k) =
-      absurd (not_both (rules_held (m rules)) k.lines h.why (read_made b k) h.refused)
-  one_build a b (no_back h) (no_rules k) =
-      absurd (not_both (rules_held (m rules)) h.lines k.why h.accepted k.refused)
-  one_build a b (no_back h) (no_back k) =
-      let same = one_place [] helds k.place h.place k.fault h.fault k.refused h.refused in
-      k.told ∙ ap (λ (n : ℕ). says (back_status k.fault) (back_line n k.fault) m) same.0
-      ∙ ap (λ (f : BackFault). says (back_status f) (back_line h.place f) m) same.1 ∙ sym h.told
-  one_build a b (no_back h) (made k) =
-      absurd (never_refused [] helds k.tables h.place h.fault k.behind_it.there k.behind_it.exact
-      h.refused)
-  one_build a b (made h) (no_rules k) =
-      absurd (not_both (rules_held (m rules)) h.lines k.why (read_made a h) k.refused)
-  one_build a b (made h) (no_back k) =
-      absurd (never_refused [] helds h.tables k.place k.fault h.behind_it.there h.behind_it.exact
-      k.refused)
+  one_build a b (no_rules h) (no_rules k) = one_refusal rules behind m a b (of_rules h) (of_rules k)
+  one_build a b (no_rules h) (no_back k) = one_refusal rules behind m a b (of_rules h) (of_back k)
+  one_build a b (no_rules h) (made k) = absurd (unrefused b a k (of_rules h))
+  one_build a b (no_back h) (no_rules k) = one_refusal rules behind m a b (of_back h) (of_rules k)
+  one_build a b (no_back h) (no_back k) = one_refusal rules behind m a b (of_back h) (of_back k)
+  one_build a b (no_back h) (made k) = absurd (unrefused b a k (of_back h))
+  one_build a b (made h) (no_rules k) = absurd (unrefused a b h (of_rules k))
+  one_build a b (made h) (no_back k) = absurd (unrefused a b h (of_back k))
   one_build a b (made h) (made k) = same_made a b h k
 
   pub one_built : HasOneAnswer (λ a. IsBuiltAt rules table behind m a)

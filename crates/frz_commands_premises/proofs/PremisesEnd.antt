@@ -36,14 +36,14 @@ use Rattle.frz_atlas_prelude.specs.declared.names.TheConstants.{MOST_BACKS}
 use Rattle.frz_atlas_prelude.specs.BackLines.{back_status}
 use Rattle.frz_atlas_prelude.specs.Ending.{EndsAt, HasSmallPlace}
 use Rattle.frz_atlas_prelude.specs.Names.{has_twice}
-use Rattle.frz_atlas_prelude.proofs.Lemmas.{AnswersAt, Holds, MayEndAt, as_many, ended_at, holds, judged_exact, may_hold_there, place_refused}
+use Rattle.frz_atlas_prelude.proofs.Lemmas.{AnswersAt, Holds, MayEndAt, as_many, ended_at, held_rules, holds, judged_exact, may_hold_there, place_refused}
 use Rattle.frz_commands_premises.specs.declared.line.Line.{Line}
 use Rattle.frz_commands_premises.specs.Finding.{FindsLines, FindsNone, WithinFinding}
 use Rattle.frz_commands_premises.specs.LineTexts.{IsWritable, line_text}
 use Rattle.frz_commands_premises.specs.PremiseLines.{text_link_of}
 use Rattle.frz_commands_premises.specs.Premises.{found, if_rules, no_back, no_rules, premises_costs, size_by}
 use Rattle.frz_commands_premises.specs.Premising.{premising_at}
-use Rattle.frz_commands_premises.proofs.Once.{held_rules, some_told}
+use Rattle.frz_commands_premises.proofs.Once.{some_told}
 use Rattle.frz_commands_premises.proofs.Writable.{all_writable}
 
 -- each end has a status of `premises`

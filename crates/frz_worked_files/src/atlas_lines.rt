@@ -1,7 +1,7 @@
 //! Lines and sessions of the program `atlas`, over tables made by hand.
 ghost use Rattle.std.specs.Prelude.{◌≡◌, ◌<◌};
 
-use crate::stores::check_bytes;
+use crate::stores::{check_bytes, words_of};
 use frz_answer::{End, Fault, Status};
 use frz_commands_journeys::{run_line, run_play};
 use frz_steps::Steps;
@@ -42,14 +42,6 @@ fn filled(alloc: Global, fails: &[Failing]) -> Result<MemStore, Fail> {
         ("empty", b""),
     ];
     store_with(alloc, fails.to_vec(alloc)?, &files)
-}
-
-fn words_of(alloc: Global, line: &[&str]) -> Result<Vec<String>, Fail> {
-    let mut words = Vec::new(alloc);
-    for word in line {
-        words.push(String::from_str(alloc, word)?)?;
-    }
-    Ok(words)
 }
 
 /// How a line or, where there is an input, a session of these words ends.

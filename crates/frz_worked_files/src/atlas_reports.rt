@@ -1,7 +1,7 @@
 //! Reports of a pawn's table over tables of what it leaves behind, all made by hand.
 ghost use Rattle.std.specs.Prelude.{◌≡◌, ◌<◌};
 
-use crate::stores::check_bytes;
+use crate::stores::{check_bytes, words_of};
 use frz_answer::{End, Fault, Status};
 use frz_commands_atlas::run_report;
 use frz_steps::Steps;
@@ -60,14 +60,6 @@ fn filled(alloc: Global, fails: &[Failing]) -> Result<MemStore, Fail> {
         ("empty", b""),
     ];
     store_with(alloc, fails.to_vec(alloc)?, &files)
-}
-
-fn words_of(alloc: Global, line: &[&str]) -> Result<Vec<String>, Fail> {
-    let mut words = Vec::new(alloc);
-    for word in line {
-        words.push(String::from_str(alloc, word)?)?;
-    }
-    Ok(words)
 }
 
 /// How a report of these words ends.

@@ -1,4 +1,5 @@
-//! A store in memory that holds the table file of a row, made by hand, and looks at what is held.
+//! What tests share: a store in memory that holds the table file of a row, made by hand, looks at
+//! what it holds, and the words of a line.
 use frz_store::{Fail as Failing, MemStore};
 use std::alloc::Global;
 use std::process::Abort;
@@ -24,4 +25,13 @@ pub(crate) fn check_bytes(rt: &impl Abort, given: &[u8], want: &[u8], case: &str
 /// The store holds this file.
 pub(crate) fn check_file(rt: &impl Abort, store: &MemStore, name: &str, want: &[u8]) {
     assert_eq!(rt; store.file(name), Some(want));
+}
+
+/// The words of a line, as a command takes them.
+pub(crate) fn words_of(alloc: Global, line: &[&str]) -> Result<Vec<String>, Fail> {
+    let mut words = Vec::new(alloc);
+    for word in line {
+        words.push(String::from_str(alloc, word)?)?;
+    }
+    Ok(words)
 }

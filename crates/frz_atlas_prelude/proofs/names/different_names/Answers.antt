@@ -3,8 +3,8 @@ use Rattle.frz_atlas_prelude.specs.Names.{not_so_many, same}
 use Rattle.frz_atlas_prelude.proofs.names.different_names.Goals as goal
 
 pub returns-in-None-clause-refused : goal.returns-in-None-clause-refused
-returns-in-None-clause-refused c = not_so_many (sym c.in-None.ensures)
+returns-in-None-clause-refused c = not_so_many (sym c.in-None.ensures.named)
 
 pub returns-in-Some-clause-refused : goal.returns-in-Some-clause-refused
 returns-in-Some-clause-refused c =
-    same _ (sym c.in-Some.ensures) (sym c.has_twice.ensures ∙ c.if-has_twice.true)
+    same _ (sym c.in-Some.ensures.named) (sym c.has_twice.ensures ∙ c.if-has_twice.true)

@@ -1,24 +1,10 @@
-use Rattle.std.proofs.Common.{sym, ap, ◌∙◌}
 use Rattle.std.specs.Prelude.{map}
 use Rattle.std.specs.String.{string_bytes}
 use Rattle.frz_store.specs.Told.{store_of}
-use Rattle.frz_atlas_prelude.specs.Names.{has_twice, table_names_of}
-use Rattle.frz_atlas_prelude.proofs.Lemmas.{as_named, ran_named, ran_refused}
+use Rattle.frz_atlas_prelude.specs.Names.{table_names_of}
+use Rattle.frz_atlas_prelude.proofs.Lemmas.{ran_named, ran_refused}
 use Rattle.frz_commands_atlas.specs.Reporting.{reporting_at}
 use Rattle.frz_commands_atlas.proofs.reporting.run_report.Goals as goal
-
-pub report_named-requires-clause-apart : goal.report_named-requires-clause-apart
-report_named-requires-clause-apart g c =
-    let words = map string_bytes c.args.words.now in
-    let behind = map string_bytes c.in-Ok.behind.now in
-    ap has_twice (sym (as_named words c.in-Ok.table.now behind c.in-Ok.ensures.named.named).0)
-    ∙ c.in-Ok.ensures.named.apart
-
-pub report_named-requires-clause-few : goal.report_named-requires-clause-few
-report_named-requires-clause-few g c =
-    let words = map string_bytes c.args.words.now in
-    let behind = map string_bytes c.in-Ok.behind.now in
-    (as_named words c.in-Ok.table.now behind c.in-Ok.ensures.named.named).1
 
 pub returns-in-Ok-clause-ran : goal.returns-in-Ok-clause-ran
 returns-in-Ok-clause-ran g c = λ input.

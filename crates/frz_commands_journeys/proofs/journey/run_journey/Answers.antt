@@ -2,14 +2,8 @@ use Rattle.std.specs.Prelude.{map}
 use Rattle.std.specs.String.{string_bytes}
 use Rattle.frz_store.specs.Told.{store_of, source_of}
 use Rattle.frz_commands_journeys.specs.Journeying.{input_with}
-use Rattle.frz_commands_journeys.proofs.WordsNamed.{few_named, ran_named, ran_refused}
+use Rattle.frz_commands_journeys.proofs.WordsNamed.{ran_named, ran_refused}
 use Rattle.frz_commands_journeys.proofs.journey.run_journey.Goals as goal
-
-pub play_for-requires-clause-apart : goal.play_for-requires-clause-apart
-play_for-requires-clause-apart g c = c.in-Ok.ensures.named.apart
-
-pub play_for-requires-clause-few : goal.play_for-requires-clause-few
-play_for-requires-clause-few g c = few_named (map string_bytes c.args.words.now) _ c.in-Ok.ensures.named.named
 
 pub returns-in-Ok-clause-ran : goal.returns-in-Ok-clause-ran
 returns-in-Ok-clause-ran g c = λ other.
