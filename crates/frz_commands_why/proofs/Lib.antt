@@ -8,6 +8,6 @@ pub mod DenialsTell
 pub mod BestWay
 pub mod Running
 pub mod Inside
-pub mod Named
+pub mod WordsNamed
 pub mod WhyMeans
 pub mod Lawful

@@ -1,8 +1,9 @@
 //! The words of `why`.
-ghost use Rattle.std.specs.Prelude.{◌≡◌, ◌∷◌, map, IfOk, IfErr};
+ghost use Rattle.std.specs.Prelude.{◌≡◌, ◌≤◌, ◌∷◌, length, map, false, IfOk, IfErr, IfSome};
 ghost use Rattle.std.specs.Option.{option_map};
 ghost use Rattle.std.specs.String.{string_bytes};
 ghost use Rattle.frz_atlas_prelude.specs.Names.{has_twice as is_twice};
+ghost use Rattle.frz_atlas_prelude.specs.declared.names.TheConstants.{MOST_BACKS};
 ghost use Rattle.frz_commands_why.specs.Words.{AreNamed, DoNotName, why_names_of};
 
 use frz_answer::Refusal;
@@ -19,12 +20,13 @@ pub struct Names<'a> {
 
 /// The names that the words give; `None` for any number of words but 3 to 19.
 fn given_names(words: &[String]) -> Option<Names<'_>>
-    ensures { option_map (λ names. record {
+    ensures named { option_map (λ names. record {
       table = names.table.now;
       fen = names.fen.now;
       side = names.side.now;
       behind = map string_bytes names.behind.now;
     }) result ≡ why_names_of (map string_bytes words.now) }
+    ensures few { IfSome result (λ names. length (map string_bytes names.behind.now) ≤ MOST_BACKS) }
 {
     match words {
         [table, fen, side, behind @ ..] if behind.len() <= MOST_BACKS => Some(Names {
@@ -53,6 +55,9 @@ pub fn why_names(words: &[String]) -> Result<Names<'_>, Refusal>
       side = names.side.now;
       behind = map string_bytes names.behind.now;
     })) }
+    ensures apart { IfOk result (λ names. is_twice (names.table.now
+        ∷ map string_bytes names.behind.now) ≡ false) }
+    ensures few { IfOk result (λ names. length (map string_bytes names.behind.now) ≤ MOST_BACKS) }
     ensures refused { IfErr result (DoNotName (map string_bytes words.now)) }
 {
     match given_names(words) {

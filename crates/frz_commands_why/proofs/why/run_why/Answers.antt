@@ -1,15 +1,8 @@
 use Rattle.std.specs.Prelude.{map}
 use Rattle.std.specs.String.{string_bytes}
 use Rattle.frz_store.specs.Told.{store_of}
-use Rattle.frz_commands_why.proofs.Named.{few_named, ran_named, ran_refused}
+use Rattle.frz_commands_why.proofs.WordsNamed.{ran_named, ran_refused}
 use Rattle.frz_commands_why.proofs.why.run_why.Goals as goal
-
-pub why_for-requires-clause-apart : goal.why_for-requires-clause-apart
-why_for-requires-clause-apart g c = c.in-Ok.ensures.named.apart
-
-pub why_for-requires-clause-few : goal.why_for-requires-clause-few
-why_for-requires-clause-few g c =
-    few_named (map string_bytes c.args.words.now) _ c.in-Ok.ensures.named.named
 
 pub returns-in-Ok-clause-ran : goal.returns-in-Ok-clause-ran
 returns-in-Ok-clause-ran g c = λ input.
