@@ -7,3 +7,4 @@ mod HeldTable
 mod SmallPlaces
 mod FaultEnds
 mod NamesTaken
+mod WordsAsked

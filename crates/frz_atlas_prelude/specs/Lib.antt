@@ -1,4 +1,5 @@
 pub mod Names
+pub mod Asked
 pub mod BackLines
 pub mod Ending
 pub mod Tables

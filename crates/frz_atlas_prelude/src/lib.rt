@@ -2,11 +2,11 @@
 //! lines that refuse one of the tables behind, and how a command ends at what is wrong with a file.
 #![tactic(auto)]
 
+mod asked;
 mod back_lines;
 mod ending;
 mod names;
 
+pub use asked::{Asked, asked_names};
 pub use ending::end_at;
-pub use names::{
-    MOST_BACKS, build_names, different_names, has_twice, is_among, names_with_backs, table_names,
-};
+pub use names::{MOST_BACKS, build_names, different_names, names_with_backs, table_names};

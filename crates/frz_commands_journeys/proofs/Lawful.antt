@@ -6,9 +6,9 @@ use Rattle.frz_fen.specs.Reading.{fen_of}
 use Rattle.frz_store.specs.Files.{Files}
 use Rattle.frz_answer.specs.Answers.{Answer}
 use Rattle.frz_answer.specs.Lawful.{IsLawful}
-use Rattle.frz_answer.proofs.Lemmas.{taking_lawful, unless_lawful}
 use Rattle.frz_prelude.specs.Positions.{on_position}
 use Rattle.frz_prelude.proofs.Lemmas.{fen_lawful}
+use Rattle.frz_atlas_prelude.proofs.Lemmas.{asked_lawful}
 use Rattle.frz_commands_line.specs.Sides.{side_of}
 use Rattle.frz_commands_line.proofs.Lemmas.{side_lawful}
 use Rattle.frz_ways.specs.declared.opponent.Opponent.{Opponent}
@@ -16,7 +16,6 @@ use Rattle.frz_ways.specs.declared.opponent.Opponent.TheVariants.{Codes, Input}
 use Rattle.frz_ways.specs.declared.opponent.Player.{Player}
 use Rattle.frz_commands_journeys.specs.JourneyOf.{IsPlayedAt, heard_by}
 use Rattle.frz_commands_journeys.specs.Journeying.{MeansAs, journey_words, journeying_at, journeying_for, journeying_named}
-use Rattle.frz_commands_journeys.specs.Words.{JourneyNames, is_same_file, journey_names_of}
 use Rattle.frz_commands_journeys.proofs.Means.{JourneyLaws, means_at}
 use Rattle.frz_commands_journeys.proofs.JourneyEnds.{JourneyThere}
 use Rattle.frz_commands_journeys.proofs.Some.{JourneyAlone, one_at}
@@ -56,7 +55,5 @@ module _ (there : JourneyThere) (alone : JourneyAlone) (laws : JourneyLaws) (opp
 
     pub journey_lawful : (words : List (List ℕ)) → IsLawful (journey_words opponent words)
     journey_lawful words =
-        taking_lawful (journeying_named opponent) (journey_names_of words)
-        (λ (names : JourneyNames). unless_lawful (is_same_file names)
-        (journeying_for opponent names.table names.behind names.fen names.side)
-        (for_lawful names.table names.behind names.fen names.side))
+        asked_lawful 1 (journeying_named opponent)
+        (λ names. for_lawful names.table names.behind names.fen names.side) words

@@ -10,4 +10,3 @@ mod JourneyArrives
 mod TablesUnread
 mod Means
 mod Lawful
-mod WordsNamed

@@ -9,8 +9,8 @@ use Rattle.frz_answer.specs.declared.status.Status.{Status}
 use Rattle.frz_answer.specs.declared.status.Status.TheVariants.{Success, Wrong, Table, Outside, Missing, Limit}
 use Rattle.frz_answer.specs.Answers.{Answer}
 use Rattle.frz_answer.specs.Jobs.{Job, Once, plain}
-use Rattle.frz_answer.specs.Words.{taking, unless}
 use Rattle.frz_prelude.specs.Positions.{on_position}
+use Rattle.frz_atlas_prelude.specs.Asked.{AskedNames, asked_words}
 use Rattle.frz_commands_line.specs.Sides.{on_side, side_of}
 use Rattle.frz_ways.specs.declared.opponent.Opponent.{Opponent}
 use Rattle.frz_ways.specs.declared.opponent.Opponent.TheVariants as opponents
@@ -18,7 +18,6 @@ use Rattle.frz_ways.specs.declared.opponent.Player.{Player}
 use Rattle.frz_commands_journeys.specs.Costs.{CostsAt}
 use Rattle.frz_commands_journeys.specs.JourneyOf.{heard_by, IsPlayedAt}
 use Rattle.frz_commands_journeys.specs.Meaning.{MeansLine, MeansPlay}
-use Rattle.frz_commands_journeys.specs.Words.{JourneyNames, is_same_file, journey_names_of}
 
 -- only a session takes input, and meets its limits
 abbrev pub takes_input : Opponent → Bool
@@ -60,14 +59,14 @@ journeying_for opponent table behind fen side =
     (journeying_at (record { side = x; opponent = opponent }) table behind) (fen_of fen))
     (side_of side)
 
--- the journey by the names that words give, where no two tables have one name
-abbrev pub journeying_named : Opponent → JourneyNames → Job
+-- the journey by the names that words give
+abbrev pub journeying_named : Opponent → AskedNames → Job
 journeying_named opponent names =
-    unless (is_same_file names)
-    (journeying_for opponent names.table names.behind names.fen names.side)
+    journeying_for opponent names.table names.behind names.fen names.side
 
+-- there is at least one BACK
 abbrev pub journey_words : Opponent → List (List ℕ) → Job
-journey_words opponent words = taking (journeying_named opponent) (journey_names_of words)
+journey_words opponent words = asked_words 1 (journeying_named opponent) words
 
 -- what is told of the command's input, where the journey is played against an input that tells
 -- this: a line has an input of its own, and leaves the command's, which may tell any other

@@ -1,4 +1,3 @@
-pub mod Words
 pub mod Endings
 pub mod JourneyOf
 pub mod Meaning

@@ -14,10 +14,9 @@ ghost use Rattle.frz_ways.specs.declared.opponent.Opponent.TheVariants as oppone
 ghost use Rattle.frz_commands_journeys.specs.Journeying.{input_with, journey_words, journeying_at, journeying_for};
 
 use crate::ending::end_of_journey;
-use crate::names::{Names, journey_names};
 use frz_answer::{End, refuse};
 use frz_atlas::load_atlas;
-use frz_atlas_prelude::end_at;
+use frz_atlas_prelude::{Asked, asked_names, end_at};
 use frz_board::Position;
 use frz_commands_line::{read_side, refuse_side};
 use frz_fen::read_fen;
@@ -34,7 +33,7 @@ use std::sync::ledger::Ledger;
 /// position.
 fn play_at<S: Store, I: Source, O: Sink, L: Ledger>(
     alloc: Global,
-    names: &Names<'_>,
+    names: &Asked<'_>,
     player: Player,
     p: &Position,
     store: &mut S,
@@ -70,7 +69,7 @@ fn play_at<S: Store, I: Source, O: Sink, L: Ledger>(
 /// Plays the journey from the position of the FEN, or refuses the FEN.
 fn play_from<S: Store, I: Source, O: Sink, L: Ledger>(
     alloc: Global,
-    names: &Names<'_>,
+    names: &Asked<'_>,
     player: Player,
     store: &mut S,
     input: &mut I,
@@ -105,7 +104,7 @@ fn play_from<S: Store, I: Source, O: Sink, L: Ledger>(
 /// Plays the journey of the side that the word names, or refuses the word.
 fn play_for<S: Store, I: Source, O: Sink, L: Ledger>(
     alloc: Global,
-    names: &Names<'_>,
+    names: &Asked<'_>,
     opponent: Opponent,
     store: &mut S,
     input: &mut I,
@@ -164,7 +163,7 @@ pub fn run_journey<S: Store, I: Source, O: Sink, L: Ledger>(
     ensures input_unused { (journey_words opponent (map string_bytes words.now)).needs.input ≡ false
         → input.new ≡ input.old }
 {
-    match journey_names(words) {
+    match asked_names(words, 1) {
         Ok(names) => play_for(alloc, &names, opponent, store, input, out, steps),
         Err(why) => refuse(why, out),
     }

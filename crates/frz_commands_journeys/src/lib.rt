@@ -5,7 +5,6 @@ mod ending;
 mod journey;
 pub mod laws;
 mod line;
-mod names;
 mod play;
 
 pub use line::run_line;

@@ -16,19 +16,18 @@ use Rattle.frz_atlas.specs.Behind.{TableBytes}
 use Rattle.frz_atlas.specs.Loading.{opened_all, opened_own}
 use Rattle.frz_answer.specs.Answers.{Answer, says}
 use Rattle.frz_answer.specs.Lawful.{HasOneAnswer, IsLawful}
-use Rattle.frz_answer.specs.Words.{unless}
-use Rattle.frz_answer.proofs.Lemmas.{taking_lawful, unless_lawful}
 use Rattle.frz_prelude.specs.Positions.{on_position}
 use Rattle.frz_prelude.specs.Refusals.{refusal_line, status_of}
 use Rattle.frz_prelude.specs.declared.refused.Refused.TheVariants as refusals
 use Rattle.frz_prelude.proofs.Lemmas.{fen_lawful}
+use Rattle.frz_atlas_prelude.specs.Asked.{AskedNames}
+use Rattle.frz_atlas_prelude.proofs.Lemmas.{asked_lawful}
 use Rattle.frz_commands_line.specs.Sides.{side_of}
 use Rattle.frz_commands_line.proofs.Lemmas.{side_lawful}
 use Rattle.frz_commands_why.specs.Asking.{asking_at, asking_named, why_words}
 use Rattle.frz_commands_why.specs.Telling.{why_text}
 use Rattle.frz_commands_why.specs.Texts.{status_by}
 use Rattle.frz_commands_why.specs.WhyOf.{IsWhyAnswer, IsWhyAt, IsWhyBy, code_at, decider_behind, value_behind}
-use Rattle.frz_commands_why.specs.Words.{WhyNames, is_same_file, why_names_of}
 use Rattle.frz_commands_why.proofs.OneTelling.{WayAlone, WayThere, told_once}
 use Rattle.frz_commands_why.proofs.Running.{some_at}
 use Rattle.frz_commands_why.proofs.WhyMeans.{WayLaws, why_means}
@@ -77,7 +76,7 @@ module _ (there : WayThere) (alone : WayAlone) (laws : WayLaws) where
     means = λ files input a are h. why_means laws table behind side p files a h;
   }
 
-  named_lawful : (names : WhyNames) → IsLawful (asking_named names)
+  named_lawful : (names : AskedNames) → IsLawful (asking_named names)
   named_lawful names =
       side_lawful (λ side. on_position (asking_at names.table names.behind side)
       (fen_of names.fen)) (side_of names.side)
@@ -85,7 +84,4 @@ module _ (there : WayThere) (alone : WayAlone) (laws : WayLaws) where
       (λ p read. asking_lawful names.table names.behind side p))
 
   pub why_lawful : (words : List (List ℕ)) → IsLawful (why_words words)
-  why_lawful words =
-      taking_lawful (λ (names : WhyNames). unless (is_same_file names) (asking_named names))
-      (why_names_of words)
-      (λ names. unless_lawful (is_same_file names) (asking_named names) (named_lawful names))
+  why_lawful words = asked_lawful 0 asking_named named_lawful words

@@ -8,6 +8,5 @@ pub mod DenialsTell
 pub mod BestWay
 pub mod Running
 pub mod Inside
-pub mod WordsNamed
 pub mod WhyMeans
 pub mod Lawful

@@ -5,13 +5,12 @@ use Rattle.frz_board.specs.Boards.{Board}
 use Rattle.frz_fen.specs.Reading.{fen_of}
 use Rattle.frz_answer.specs.declared.status.Status.TheVariants.{Success, Wrong, Table, Outside, Missing}
 use Rattle.frz_answer.specs.Jobs.{Job, Once, plain, WithinCosts}
-use Rattle.frz_answer.specs.Words.{taking, unless}
 use Rattle.frz_prelude.specs.Positions.{on_position}
+use Rattle.frz_atlas_prelude.specs.Asked.{AskedNames, asked_words}
 use Rattle.frz_commands_line.specs.Sides.{on_side, side_of}
 use Rattle.frz_commands_why.specs.Costs.{why_costs}
 use Rattle.frz_commands_why.specs.Meaning.{MeansWhy}
 use Rattle.frz_commands_why.specs.WhyOf.{IsWhyAt}
-use Rattle.frz_commands_why.specs.Words.{WhyNames, is_same_file, why_names_of}
 
 -- `why` with these names, no two of which are the same. Its text is written only once all files are
 -- loaded, so that no fault of the store or of memory comes behind some of its lines
@@ -26,12 +25,11 @@ asking_at table behind side p =
     }
 
 -- the side is read first, and then the FEN
-abbrev pub asking_named : WhyNames → Job
+abbrev pub asking_named : AskedNames → Job
 asking_named names =
     on_side (λ side. on_position (asking_at names.table names.behind side) (fen_of names.fen))
     (side_of names.side)
 
 -- why TABLE FEN SIDE BACK ..
 abbrev pub why_words : List (List ℕ) → Job
-why_words words =
-    taking (λ names. unless (is_same_file names) (asking_named names)) (why_names_of words)
+why_words words = asked_words 0 asking_named words

@@ -1,5 +1,4 @@
 -- What the contracts of `why` speak of.
-pub mod Words
 pub mod Deciders
 pub mod Decides
 pub mod Texts

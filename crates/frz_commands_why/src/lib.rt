@@ -5,7 +5,6 @@
 mod decider;
 pub mod laws;
 mod loading;
-mod names;
 mod telling;
 mod texts;
 mod why;

@@ -25,10 +25,9 @@ ghost use Rattle.frz_commands_why.specs.Telling.{EndsWhy, telling_steps};
 
 use crate::decider::Deciding;
 use crate::loading::load_tables;
-use crate::names::{Names, why_names};
 use crate::telling::tell_why;
 use frz_answer::{End, Fault, refuse};
-use frz_atlas_prelude::end_at;
+use frz_atlas_prelude::{Asked, asked_names, end_at};
 use frz_backs::AtlasBook;
 use frz_board::{Colour, Position};
 use frz_chain::BackTable;
@@ -179,7 +178,7 @@ fn why_at<S: Store, O: Sink, L: Ledger>(
 /// Tells of the position of the FEN, or refuses the FEN.
 fn why_from<S: Store, O: Sink, L: Ledger>(
     alloc: Global,
-    names: &Names<'_>,
+    names: &Asked<'_>,
     side: Colour,
     store: &mut S,
     out: &mut O,
@@ -215,7 +214,7 @@ fn why_from<S: Store, O: Sink, L: Ledger>(
 /// Tells of the side that the word names, or refuses the word.
 fn why_for<S: Store, O: Sink, L: Ledger>(
     alloc: Global,
-    names: &Names<'_>,
+    names: &Asked<'_>,
     store: &mut S,
     out: &mut O,
     steps: &mut Steps<L>,
@@ -260,7 +259,7 @@ pub fn run_why<S: Store, O: Sink, L: Ledger>(
     ensures store_unused { (why_words (map string_bytes words.now)).needs.store ≡ false
         → store.new ≡ store.old }
 {
-    match why_names(words) {
+    match asked_names(words, 0) {
         Ok(names) => why_for(alloc, &names, store, out, steps),
         Err(why) => refuse(why, out),
     }

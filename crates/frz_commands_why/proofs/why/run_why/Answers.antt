@@ -1,15 +1,16 @@
 use Rattle.std.specs.Prelude.{map}
 use Rattle.std.specs.String.{string_bytes}
 use Rattle.frz_store.specs.Told.{store_of}
-use Rattle.frz_commands_why.proofs.WordsNamed.{ran_named, ran_refused}
+use Rattle.frz_atlas_prelude.proofs.Lemmas.{ran_asked, ran_unasked}
+use Rattle.frz_commands_why.specs.Asking.{asking_named}
 use Rattle.frz_commands_why.proofs.why.run_why.Goals as goal
 
 pub returns-in-Ok-clause-ran : goal.returns-in-Ok-clause-ran
 returns-in-Ok-clause-ran g c = λ input.
-    ran_named (map string_bytes c.args.words.now) _ _ _ _ c.in-Ok.ensures.named
+    ran_asked 0 asking_named (map string_bytes c.args.words.now) _ _ _ _ c.in-Ok.ensures.named
     (c.why_for.ensures.ran input)
 
 pub returns-in-Err-clause-ran : goal.returns-in-Err-clause-ran
 returns-in-Err-clause-ran g c = λ input.
-    ran_refused (map string_bytes c.args.words.now) _ _ _ c.in-Err.why c.in-Err.ensures.refused
+    ran_unasked 0 asking_named (map string_bytes c.args.words.now) _ _ _ c.in-Err.why c.in-Err.ensures.refused
     (c.refuse.ensures (store_of g.S.Store c.args.store.now) input _)
