@@ -9,6 +9,8 @@ use Rattle.frz_index.specs.Membership.{number_of}
 use Rattle.frz_chain.specs.Books.{Back, back_value, told_at}
 use Rattle.frz_chain.specs.FileOn.{loaded_back}
 use Rattle.frz_chain.specs.declared.back.BackTable.{BackTable}
+use Rattle.frz_chain.specs.PairValues.{pair_value}
+use Rattle.frz_backs.specs.Codes.{codes_at, codes_of}
 use Rattle.frz_backs.specs.Values.{first_value, told_or}
 
 -- what holds of all that one table tells and of what the rest tell
@@ -62,23 +64,39 @@ table_there backs i q back l e =
     ∙ (ap (λ b. first_value (map loaded_back (b ∷ drop (i + 1) backs)) q) (sym e)
     ∙ front_tells (loaded_back back) (map loaded_back (drop (i + 1) backs)) q)
 
+-- the value by the two codes of the table, and the rest's value where it has none
+abbrev pair_or : Value → Option (ℕ × ℕ) → Value
+pair_or rest None = rest
+pair_or rest (Some (white, black)) = pair_value white black
+
+told_by_codes : (back : Back) (rest : Value) (o : Option ℕ) →
+    told_or back rest o ≡ pair_or rest (codes_at back o)
+told_by_codes back rest None = refl
+told_by_codes back rest (Some i) = refl
+
+codes_there : (backs : List BackTable) (i : ℕ) (q : Board) (back : BackTable) →
+    i < length backs → back ≡ get_or backs i back → (codes : Option (ℕ × ℕ)) →
+    codes ≡ codes_of (loaded_back back) q →
+    told_from i backs q ≡ pair_or (told_from (i + 1) backs q) codes
+codes_there backs i q back l e codes known =
+    table_there backs i q back l e
+    ∙ (told_by_codes (loaded_back back) (told_from (i + 1) backs q)
+    (number_of back.table.rules.groups q)
+    ∙ ap (pair_or (told_from (i + 1) backs q)) (sym known))
+
 -- a table whose set holds the position tells its value
 pub table_has : (backs : List BackTable) (i : ℕ) (q : Board) (back : BackTable) →
-    i < length backs → back ≡ get_or backs i back → (n : ℕ) →
-    Some n ≡ number_of back.table.rules.groups q →
-    told_from i backs q ≡ told_at (loaded_back back) (Some n)
-table_has backs i q back l e n has =
-    table_there backs i q back l e
-    ∙ ap (told_or (loaded_back back) (told_from (i + 1) backs q)) (sym has)
+    i < length backs → back ≡ get_or backs i back → (white black : ℕ) →
+    Some (white, black) ≡ codes_of (loaded_back back) q →
+    told_from i backs q ≡ pair_value white black
+table_has backs i q back l e white black has =
+    codes_there backs i q back l e (Some (white, black)) has
 
 -- a table whose set does not hold the position is passed over
 pub table_lacks : (backs : List BackTable) (i : ℕ) (q : Board) (back : BackTable) →
-    i < length backs → back ≡ get_or backs i back →
-    None ≡ number_of back.table.rules.groups q →
+    i < length backs → back ≡ get_or backs i back → None ≡ codes_of (loaded_back back) q →
     told_from i backs q ≡ told_from (i + 1) backs q
-table_lacks backs i q back l e lacks =
-    table_there backs i q back l e
-    ∙ ap (told_or (loaded_back back) (told_from (i + 1) backs q)) (sym lacks)
+table_lacks backs i q back l e lacks = codes_there backs i q back l e None lacks
 
 -- past the last table nothing is told
 pub none_left : (backs : List BackTable) (i : ℕ) (q : Board) → length backs ≤ i →

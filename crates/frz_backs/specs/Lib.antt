@@ -3,3 +3,4 @@ pub mod Links
 pub mod Loaded
 pub mod LinkPlies
 pub mod Decided
+pub mod Codes

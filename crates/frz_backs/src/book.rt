@@ -7,6 +7,7 @@ ghost use Rattle.frz_sets.specs.Sound.{IsSound};
 ghost use Rattle.frz_chain.specs.FileOn.{loaded_back};
 ghost use Rattle.frz_backs.specs.Values.{atlas_value, first_value};
 
+use crate::codes::codes_on;
 use frz_bits::Bitboards;
 use frz_board::Position;
 use frz_chain::{BackTable, pair_value};
@@ -40,8 +41,8 @@ fn first_told(backs: &[BackTable], q: &Bitboards) -> Value
     ensures { result ≡ first_value (map loaded_back backs.now) q.now }
 {
     for back in backs {
-        if let Some(i) = back.table.set().number_on(q) {
-            return pair_value(back.white[i as usize], back.black[i as usize]);
+        if let Some((white, black)) = codes_on(back, q) {
+            return pair_value(white, black);
         }
     }
     Value::Unknown

@@ -3,6 +3,8 @@
 #![tactic(auto)]
 
 mod book;
+mod codes;
 pub mod laws;
 
 pub use book::AtlasBook;
+pub use codes::codes_on;

@@ -6,6 +6,7 @@ ghost use Rattle.frz_premises.specs.Saying as words;
 ghost use Rattle.frz_backs.specs.Loaded.{leans_as, link_loaded};
 
 use frz_arena::is_win;
+use frz_backs::codes_on;
 use frz_bits::Bitboards;
 use frz_board::Colour;
 use frz_chain::BackTable;
@@ -86,8 +87,8 @@ pub fn says_as_much(value: Value, back: &BackTable, q: &Bitboards) -> bool
     requires { IsValid q.now }
     ensures { result ≡ words.says_as_much value (link_loaded back.now) q.now }
 {
-    match back.table.set().number_on(q) {
-        Some(i) => codes_say(back, back.white[i as usize], back.black[i as usize], value),
+    match codes_on(back, q) {
+        Some((white, black)) => codes_say(back, white, black, value),
         None => false,
     }
 }

@@ -1,67 +1,36 @@
-use Rattle.std.proofs.Common.{◌≡◌, ◌∙◌, ℕ, List, Option, Some, None, ap, ap₂, slice_index, length, arith}
-use Rattle.std.proofs.lemmas.List.{get_or_read_under}
-use Rattle.frz_board.specs.Boards.{Board}
-use Rattle.frz_sets.specs.Views.{GroupLine}
+use Rattle.std.proofs.Common.{◌≡◌, ◌∙◌, refl, ap, ℕ, Bool, false, Option, Some, None}
+use Rattle.frz_sets.specs.declared.exit.Value.{Value}
 use Rattle.frz_index.specs.Membership.{number_of}
-use Rattle.frz_chain.proofs.Lemmas.{number_below}
+use Rattle.frz_backs.specs.Codes.{codes_at, codes_of}
+use Rattle.frz_backs.specs.Links.{Link}
 use Rattle.frz_backs.specs.Loaded.{link_loaded}
 use Rattle.frz_premises.specs.Saying.{codes_say, says_as_much, says_at}
 use Rattle.frz_premises.proofs.saying.says_as_much.Goals as goal
 
--- what the set answers is what the groups of the table give
-by_groups : (q : Board) (o : Option ℕ) (set groups : List GroupLine) → o ≡ number_of set q
-    → set ≡ groups → o ≡ number_of groups q
-by_groups q o set groups e same = e ∙ ap (λ gs. number_of gs q) same
+-- what the two codes of the table say, and nothing where it has none
+abbrev says_by : Value → Link → Option (ℕ × ℕ) → Bool
+says_by value link None = false
+says_by value link (Some (white, black)) = codes_say link white black value
 
-pub index-requires : goal.index-requires
-index-requires c =
-    let back = c.args.back.now in
-    let has = by_groups c.args.q.now (Some c.in-Some.i) c.set.result.now back.table.rules.groups
-    c.in-Some.ensures.function c.set.ensures in
-    let below = number_below back.table.rules.groups c.args.q.now c.in-Some.i has in
-    let white = back.white_many in
-    let black = back.black_many in
-    omega (arith, below, white, black)
-
-pub index-requires-in-Some : goal.index-requires-in-Some
-index-requires-in-Some c =
-    let back = c.args.back.now in
-    let has = by_groups c.args.q.now (Some c.in-Some.i) c.set.result.now back.table.rules.groups
-    c.in-Some.ensures.function c.set.ensures in
-    let below = number_below back.table.rules.groups c.args.q.now c.in-Some.i has in
-    let white = back.white_many in
-    let black = back.black_many in
-    omega (arith, below, white, black)
+said_by_codes : (value : Value) (link : Link) (o : Option ℕ) →
+    says_by value link (codes_at link.back o) ≡ says_at value link o
+said_by_codes value link None = refl
+said_by_codes value link (Some i) = refl
 
 pub returns-in-Some : goal.returns-in-Some
 unfolding says_as_much
 returns-in-Some c =
-    let back = c.args.back.now in
-    let i = c.in-Some.i in
-    let q = c.args.q.now in
-    let link = link_loaded back in
-    let has = by_groups q (Some i) c.set.result.now back.table.rules.groups
-    c.in-Some.ensures.function c.set.ensures in
-    let below = number_below back.table.rules.groups q i has in
-    let white_many = back.white_many in
-    let black_many = back.black_many in
-    let white : c.index.result.now ≡ slice_index back.white.items i =
-    get_or_read_under back.white.items i (length back.white.items) c.index.result.now 0
-    c.index.ensures
-    (omega (arith, below, white_many))
-    (omega arith) in
-    let black : c.index-in-Some.result.now ≡ slice_index back.black.items i =
-    get_or_read_under back.black.items i (length back.black.items) c.index-in-Some.result.now 0
-    c.index-in-Some.ensures
-    (omega (arith, below, black_many))
-    (omega arith) in
-    c.codes_say.ensures ∙ ap₂ (λ (w b : ℕ). codes_say link w b c.args.value) white black
-    ∙ ap (says_at c.args.value link) has
+    let link = link_loaded c.args.back.now in
+    let white = c.in-Some.white in
+    let black = c.in-Some.black in
+    let has : Some (white, black) ≡ codes_of link.back c.args.q.now = c.in-Some.ensures in
+    c.codes_say.ensures ∙ (ap (says_by c.args.value link) has
+    ∙ said_by_codes c.args.value link (number_of link.back.groups c.args.q.now))
 
 pub returns-in-None : goal.returns-in-None
 unfolding says_as_much
 returns-in-None c =
-    let back = c.args.back.now in
-    let lacks = by_groups c.args.q.now None c.set.result.now back.table.rules.groups
-    c.in-None.ensures.function c.set.ensures in
-    ap (says_at c.args.value (link_loaded back)) lacks
+    let link = link_loaded c.args.back.now in
+    let lacks : None ≡ codes_of link.back c.args.q.now = c.in-None.ensures in
+    ap (says_by c.args.value link) lacks
+    ∙ said_by_codes c.args.value link (number_of link.back.groups c.args.q.now)
