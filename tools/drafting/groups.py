@@ -6,6 +6,7 @@ from drafting.events import PIECES, colour_of
 from lib.chess import KINDS, name_of, rank_of, side_of
 
 ALL = frozenset(range(64))
+WHOLE = -1  # after the steps of `kept_near` down to 0, the one by which no man may be gone
 NAMES = {"K": "king", "Q": "queen", "R": "rook", "B": "bishop", "N": "knight", "P": "pawn"}
 
 
@@ -91,9 +92,14 @@ def distance(a, b):
 
 
 def kept_near(group, men, reach):
-    """The group with its pieces kept within so many steps of where they stand. Of pawns: with what they
-    become kept to the last rank at three steps, left out at two, and the pawns where they stand at less."""
-    if all(men[s] in "Pp" for s in group.men):
+    """The group with its pieces kept within so many steps of where they stand, and at 0 each man. Of pawns
+    alone: with what they become kept to the last rank at three steps, left out at two, and the pawns where
+    they stand at less. WHOLE: with its places, but no man gone."""
+    if reach == WHOLE:
+        return Group(group.colour, group.men, group.states, group.most)
+    if reach == 0:
+        states = {(men[s].upper(), s) for s in group.men}
+    elif all(men[s] in "Pp" for s in group.men):
         states = {state for state in group.states if pawn_keeps(state, group.men, reach)}
     else:
         states = {

@@ -1,7 +1,7 @@
 """The text of a draft, with what each group costs and what it leaves out."""
 
 from drafting.events import PIECES
-from drafting.groups import NAMES, groups_of, kept_near
+from drafting.groups import NAMES, WHOLE, groups_of, kept_near
 from lib.chess import name_of, side_of, write_fen
 from lib.rules import LARGEST_SET, possible_targets
 
@@ -28,8 +28,9 @@ class Draft:
         self.fit()
 
     def fit(self):
-        """Keeps men near where they stand until the set is small enough."""
-        for own, reach in self.order():
+        """Keeps men near where they stand until the set is small enough. Where it is not with each man on
+        his square, those of the other side, or Black's with no such side, may not be gone: that is enough."""
+        for own, reach in self.order() + [(False, WHOLE)]:
             for index in self.wide(own):
                 if size_of(self.groups) <= LARGEST_SET:
                     return
@@ -46,7 +47,7 @@ class Draft:
         """The groups of the side, or of the other one, those with the most choices first."""
         first = self.side or "white"
         found = [
-            i for i, g in enumerate(self.groups) if (g.colour == first) == own and not g.is_fixed
+            i for i, g in enumerate(self.groups) if (g.colour == first) == own and g.choices > 1
         ]
         return sorted(found, key=lambda i: -self.groups[i].choices)
 
@@ -73,6 +74,10 @@ class Draft:
             lines.append(f"# With every man free it would be {self.wished:,}, above {LARGEST_SET:,}. So, in this order:")
         for group, reach, left in self.cuts:
             lines.append(f"#   {self.named(group)} {self.kept(group, reach)}; that leaves {left:,}")
+        if self.cuts:
+            lines.append(
+                "# Bounds stay true in chess: a side gives up moves of its own, and the other's ways out count against it."
+            )
         return lines
 
     def named(self, group):
@@ -80,6 +85,8 @@ class Draft:
 
     def kept(self, group, reach):
         """What a cut does to the men of the group."""
+        if reach == WHOLE:
+            return "not taken, without 0-1"
         if not self.is_of_pawns(group):
             return f"within {reach} of where it stands" if reach else "where it stands"
         return {3: "promoted, on the last rank alone", 2: "not promoted"}.get(reach, "where it stands")
@@ -106,7 +113,10 @@ class Draft:
             yield f"  captures by {colour}'s pawns on {names}, which leave their files"
         if names := ", ".join(name_of(s) for s in self.victims(side)):
             yield f"  the capture of a pawn on {names}, which has no 0-1"
-        last = {tuple(group.men): (group, reach) for group, reach, _ in self.cuts}
+        for group, reach, _ in self.cuts:
+            if reach == WHOLE and group.colour != colour:
+                yield f"  the capture of {self.named(group)}, without 0-1"
+        last = {tuple(group.men): (group, reach) for group, reach, _ in self.cuts if reach != WHOLE}
         for group, reach in last.values():
             if group.colour == colour and (missed := self.missed(group, reach)):
                 yield f"  {self.named(group)}, {missed}"
