@@ -79,11 +79,11 @@ module _ (text : List ℕ) (behind : List (List ℕ)) (name : List ℕ) (rules :
       builds_after (magic_of Atlas) text rules (atlas_value rules used) _ name result old mid new
       (ap (atlas_value rules) (same ∙ kept_backs links opens.tables opens.keeps)) quiet fine h
 
-  pub built : (Contains behind name → ⊥) → (size : ℕ) → size ≡ size_of rules.groups
+  pub atlas_built : (Contains behind name → ⊥) → (size : ℕ) → size ≡ size_of rules.groups
       → (used : List Back) → used ≡ backs_of links
       → Builds {T = ℕ} (magic_of Atlas) text rules (atlas_value rules used) name (Ok size) mid new
       → BuildsAtlas text behind name old new steps_before steps_now size
-  built apart size sized used same b =
+  atlas_built apart size sized used same b =
       let h = over_tables used (Ok size) same b in record {
         rules = rules;
         accepted = accepted;

@@ -83,7 +83,7 @@ within_all bytes contents helds old mid then new steps_before steps_then steps_n
     file.file) in
     let size : own_size (Some bytes) ≡ size_of contents.rules.groups = ap opened_size opens in
     record {
-      steps = summed (sum_by steps_of helds) (own_size (Some bytes)) size h.steps;
+      steps = steps_all (sum_by steps_of helds) (own_size (Some bytes)) size h.steps;
       asked = asked_all (length (kept_text bytes)) (sum_by bytes_of helds) (own_size (Some bytes))
           text size h.asked;
       calls = calls_all (opening_calls (table_format Atlas) (Some bytes)) (sum_by calls_of helds)
@@ -91,9 +91,9 @@ within_all bytes contents helds old mid then new steps_before steps_then steps_n
           (ap pieces_of size) h.calls;
     }
   where
-    summed : (behind own : ℕ) → own ≡ size_of contents.rules.groups
+    steps_all : (behind own : ℕ) → own ≡ size_of contents.rules.groups
         → steps_then ≤ steps_before + behind → steps_now ≤ steps_before + (own + behind)
-    summed behind own is few = omega (arith, is, few, steps)
+    steps_all behind own is few = omega (arith, is, few, steps)
 
     asked_all : (text behind own : ℕ) → text ≡ length contents.text
         → own ≡ size_of contents.rules.groups → then.asked ≤ mid.asked + behind
@@ -186,12 +186,13 @@ module _ (table : Table) (name : List ℕ) (behind : List (List ℕ)) (old mid :
       within = within_opened opens.bytes opens.opens;
     }
 
-    pub checked : then.files ≡ mid.files → table.kind ≡ Atlas → table.name ≡ name → (c : Checked)
+    pub atlas_checked : then.files ≡ mid.files → table.kind ≡ Atlas → table.name ≡ name
+        → (c : Checked)
         → c.size ≡ table_size table
         → c.behind.items ≡ map (λ back. size_of back.groups) (backs_of links)
         → ChecksTable then.files table (atlas_value table.rules (backs_of links)) c.verdict
         → ChecksAtlas name behind old new steps_before steps_now c
-    checked then_same kind named c size sizes told =
+    atlas_checked then_same kind named c size sizes told =
         let contents : Contents = contents_of table in
         let read = (belongs (table_format Atlas) opens.bytes contents opens.opens).read in
         let there = file_opens Atlas table name told.bytes old.files then.files (then_same ∙ same)

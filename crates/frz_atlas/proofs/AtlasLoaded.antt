@@ -121,7 +121,7 @@ module _ (table : Table) (name : List ℕ) (behind : List (List ℕ)) (old mid :
       }
 
 -- all of them were loaded
-pub loaded : (given : LoadedAtlas) (name : List ℕ) (behind : List (List ℕ))
+pub atlas_loaded : (given : LoadedAtlas) (name : List ℕ) (behind : List (List ℕ))
     (old mid then new : StoreTold)
     → MayOpen (table_format Atlas) old.files name (contents_of given.table.table)
     → mid.files ≡ old.files → then.files ≡ mid.files
@@ -132,7 +132,7 @@ pub loaded : (given : LoadedAtlas) (name : List ℕ) (behind : List (List ℕ))
     → new.asked ≤ then.asked + 8 * table_size given.table.table
     → new.calls ≤ then.calls + 2 * pieces_of (table_size given.table.table)
     → LoadsAtlas name behind old new given
-loaded given name behind old mid then new opens same then_same asked calls kind named h kept
+atlas_loaded given name behind old mid then new opens same then_same asked calls kind named h kept
     more_asked more_calls =
     let table : Table = given.table.table in
     let contents : Contents = contents_of table in

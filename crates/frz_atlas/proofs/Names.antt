@@ -34,8 +34,8 @@ module _ {A : Type 0} (f : A → List ℕ) (names : List A) (i : ℕ) (x : A) (n
     (is : x ≡ get_or names i x) (named : name ≡ f x) (sliced : slice ≡ items)
     (h : OpensAll (map f (take i names)) items old mid steps_before steps_between)
     (same : mid.files ≡ old.files) where
-  before : map loaded_back slice ≡ backs_of (map link_loaded items)
-  before = ap (map loaded_back) sliced ∙ sym (loaded_backs items)
+  same_backs_before : map loaded_back slice ≡ backs_of (map link_loaded items)
+  same_backs_before = ap (map loaded_back) sliced ∙ sym (loaded_backs items)
 
   next_open : (given : BackTable)
       → OpensOver (map loaded_back slice) name given mid new steps_between steps_now
@@ -44,7 +44,8 @@ module _ {A : Type 0} (f : A → List ℕ) (names : List A) (i : ℕ) (x : A) (n
   next_open given k =
       one_more (map f (take i names)) items old mid new steps_before steps_between
       steps_now (f x) h same given
-      (subst (λ (l : List Back). OpensOver l (f x) given mid new steps_between steps_now) before
+      (subst (λ (l : List Back). OpensOver l (f x) given mid new steps_between steps_now)
+      same_backs_before
       (subst (λ (n : List ℕ). OpensOver (map loaded_back slice) n given mid new
       steps_between steps_now) named k))
 
@@ -67,7 +68,8 @@ module _ {A : Type 0} (f : A → List ℕ) (names : List A) (i : ℕ) (x : A) (n
       old new steps_before steps_now (back_fault n fault)) many
       (one_refused (map f (take i names)) items old mid new steps_before
       steps_between steps_now (f x) h same (map f (drop (suc i) names)) fault
-      (subst (λ (l : List Back). RefusesOver l (f x) mid new steps_between steps_now fault) before
+      (subst (λ (l : List Back). RefusesOver l (f x) mid new steps_between steps_now fault)
+      same_backs_before
       (subst (λ (n : List ℕ). RefusesOver (map loaded_back slice) n mid new
       steps_between steps_now fault) named k))))
 

@@ -226,10 +226,10 @@ not_read name old new fault few =
     record {
       held = held;
       may = may_be_held old.files name;
-      refuses = outside fault (opened (table_format (kind_held held)) held);
+      refuses = store_fault_refuses fault (opened (table_format (kind_held held)) held);
       asked = omega (arith, few);
     }
   where
-    outside : (f : StoreFault) (given : Given) → Refuses given (fault_of f)
-    outside store.Failed given = tt
-    outside store.NoMemory given = tt
+    store_fault_refuses : (f : StoreFault) (given : Given) → Refuses given (fault_of f)
+    store_fault_refuses store.Failed given = tt
+    store_fault_refuses store.NoMemory given = tt

@@ -15,9 +15,9 @@ use Rattle.frz_atlas_prelude.specs.Names.{has_twice}
 use Rattle.frz_atlas_prelude.specs.Tables.{AreExactOver}
 use Rattle.frz_atlas_prelude.proofs.TablesOnce.{with_table}
 
-neither : (a b : Bool) → (a || b) ≡ false → (a ≡ false) × (b ≡ false)
-neither true b h = absurd cc
-neither false b h = (refl, h)
+neither_is_true : (a b : Bool) → (a || b) ≡ false → (a ≡ false) × (b ≡ false)
+neither_is_true true b h = absurd cc
+neither_is_true false b h = (refl, h)
 
 abbrev is_among : List ℕ → List (List ℕ) → Bool
 is_among name names = list_any (λ other. bytes_eq other name) names
@@ -26,7 +26,7 @@ is_among name names = list_any (λ other. bytes_eq other name) names
 -- same
 pub first_alone : (name : List ℕ) (names : List (List ℕ)) → has_twice (name ∷ names) ≡ false
     → (is_among name names ≡ false) × (has_twice names ≡ false)
-first_alone name names h = neither (is_among name names) (has_twice names) h
+first_alone name names h = neither_is_true (is_among name names) (has_twice names) h
 
 -- where no two names are the same, this stays so without the second name
 pub without_second : (first second : List ℕ) (names : List (List ℕ))
@@ -34,7 +34,7 @@ pub without_second : (first second : List ℕ) (names : List (List ℕ))
 without_second first second names h =
     let outer = first_alone first (second ∷ names) h in
     let inner = first_alone second names outer.1 in
-    let apart = neither (bytes_eq second first) (is_among first names) outer.0 in
+    let apart = neither_is_true (bytes_eq second first) (is_among first names) outer.0 in
     rw (apart.1, inner.1) refl
 
 -- a name that is not among them is none of them
@@ -42,11 +42,11 @@ pub not_contained : (name : List ℕ) (names : List (List ℕ)) → is_among nam
     → Contains names name → ⊥
 not_contained name [] h (k, here, is) = absurd (omega arith)
 not_contained name (other ∷ names) h (zero, here, is) =
-    let apart = neither (bytes_eq other name) (is_among name names) h in
+    let apart = neither_is_true (bytes_eq other name) (is_among name names) h in
     let same : bytes_eq other name ≡ true = (bytes_eq-Decides other name).1 is in
     let no : true ≡ false = sym same ∙ apart.0 in cc
 not_contained name (other ∷ names) h (suc k, here, is) =
-    let apart = neither (bytes_eq other name) (is_among name names) h in
+    let apart = neither_is_true (bytes_eq other name) (is_among name names) h in
     not_contained name names apart.1 (k, omega arith, is)
 
 -- the files where one name holds this instead
@@ -62,7 +62,7 @@ instead_off : (files : Files) (name : List ℕ) (held : Option (List ℕ)) (name
     → is_among name names ≡ false → map (instead files name held) names ≡ map files names
 instead_off files name held [] h = refl
 instead_off files name held (other ∷ names) h =
-    let apart = neither (bytes_eq other name) (is_among name names) h in
+    let apart = neither_is_true (bytes_eq other name) (is_among name names) h in
     ap (λ (b : Bool). (if b then held else files other) ∷ map (instead files name held) names)
     apart.0
     ∙ ap (λ (l : List (Option (List ℕ))). files other ∷ l)

@@ -14,11 +14,11 @@ pub record Holds (told : Option Files) (table : List ℕ) (behind : List (List �
   pub others : map all.files behind ≡ helds
 
 -- there are such files where no two names are the same
-pub holds : (told : Option Files) (table : List ℕ) (behind : List (List ℕ))
+pub apart_names_hold : (told : Option Files) (table : List ℕ) (behind : List (List ℕ))
     → has_twice (table ∷ behind) ≡ false → (held : Option (List ℕ))
     (helds : List (Option (List ℕ))) → MayHold told table held → MayHoldAll told behind helds
     → Holds told table behind held helds
-holds told table behind apart held helds may may_all =
+apart_names_hold told table behind apart held helds may may_all =
     let all = holding_all told (table ∷ behind) (held ∷ helds) apart
     (may_hold_first told table held behind helds may may_all) in
     record {

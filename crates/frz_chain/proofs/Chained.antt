@@ -87,10 +87,10 @@ module _ (text back name : List ℕ) (rules : RuleLines) (accepted : rules_of te
       builds_after (magic_of Chained) text rules (chain_value rules loaded) _ name result old mid new
       (ap (chain_value rules) opens.keeps) quiet fine h
 
-  pub chained : name ≢ back → (size : ℕ) → size ≡ size_of rules.groups
+  pub built_over_back : name ≢ back → (size : ℕ) → size ≡ size_of rules.groups
       → Builds {T = ℕ} (magic_of Chained) text rules (chain_value rules loaded) name (Ok size) mid
       new → Chains text back name old new steps_before steps_now size
-  chained differs size sized built =
+  built_over_back differs size sized built =
       let h = over_bytes (Ok size) built in record {
         rules = rules;
         accepted = accepted;

@@ -81,7 +81,7 @@ within_both bytes contents back_held old mid then new steps_before steps_then st
     file.file) in
     let size = size_of contents.rules.groups in
     record {
-      steps = summed steps_before steps_then steps_now (steps_of_back back_held)
+      steps = steps_both steps_before steps_then steps_now (steps_of_back back_held)
           (if_exact back_held size) _
           (ap (λ (x : Result Contents TableFault). steps_behind x back_held) opens) h.steps steps;
       asked = asked_both (length (kept_text bytes)) (bytes_of_back back_held)
@@ -95,9 +95,9 @@ within_both bytes contents back_held old mid then new steps_before steps_then st
           more_calls;
     }
   where
-    summed : (start middle end back loads behind : ℕ) → behind ≡ back + loads
+    steps_both : (start middle end back loads behind : ℕ) → behind ≡ back + loads
         → middle ≤ start + back → end ≤ middle + loads → end ≤ start + behind
-    summed start middle end back loads behind is few more = omega (arith, is, few, more)
+    steps_both start middle end back loads behind is few more = omega (arith, is, few, more)
 
     asked_both : (text back loads behind : ℕ) → text ≡ length contents.text → behind ≡ back + loads
         → mid.asked ≤ old.asked + (16 + length contents.text)
@@ -134,15 +134,17 @@ loaded_both bytes contents back_held old mid then new steps_before steps_then st
     (subst (λ (n : ℕ). steps_now ≤ steps_then + n) (all size) steps)
 
 -- the table was opened, and the back table refused
-behind : (bytes : List ℕ) (contents : Contents) (back_held : Option (List ℕ)) (fault : ChainFault)
+refused_behind_opened : (bytes : List ℕ) (contents : Contents) (back_held : Option (List ℕ))
+    (fault : ChainFault)
     → opened (table_format Chained) (Some bytes) ≡ Ok contents → IsRefusedBack back_held fault
     → IsRefusedChain (Some bytes) back_held fault
-behind bytes contents back_held (chain.Back fault) opens h = ((contents, opens), h)
-behind bytes contents back_held (chain.BackWrong wrong) opens h = ((contents, opens), h)
-behind bytes contents back_held chain.Failed opens h = tt
-behind bytes contents back_held chain.NoMemory opens h = tt
-behind bytes contents back_held (chain.Rules fault) opens h = absurd h
-behind bytes contents back_held (chain.Table fault) opens h = absurd h
+refused_behind_opened bytes contents back_held (chain.Back fault) opens h = ((contents, opens), h)
+refused_behind_opened bytes contents back_held (chain.BackWrong wrong) opens h =
+    ((contents, opens), h)
+refused_behind_opened bytes contents back_held chain.Failed opens h = tt
+refused_behind_opened bytes contents back_held chain.NoMemory opens h = tt
+refused_behind_opened bytes contents back_held (chain.Rules fault) opens h = absurd h
+refused_behind_opened bytes contents back_held (chain.Table fault) opens h = absurd h
 
 pub back_refused : (table back : List ℕ) (contents : Contents) (old mid new : StoreTold)
     (steps_before steps_now : ℕ) (fault : ChainFault)
@@ -156,7 +158,7 @@ back_refused table back contents old mid new steps_before steps_now fault opens 
       may = opens.may;
       back_held = h.held;
       back_may = subst (λ (o : Option Files). MayHold o back h.held) same h.may;
-      refuses = behind opens.bytes contents h.held fault opens.opens h.refuses;
+      refuses = refused_behind_opened opens.bytes contents h.held fault opens.opens h.refuses;
       within =
           within_both opens.bytes contents h.held old mid new new steps_before steps_now steps_now
           opens.opens asked calls h.within
@@ -197,7 +199,7 @@ not_loaded table name back loaded old mid then new steps_before steps_then steps
     }
 
 -- both were opened, and this is the verdict on the table
-checked : (table : Table) (name back : List ℕ) (loaded : Back) (back_size : ℕ)
+verdict_over_back : (table : Table) (name back : List ℕ) (loaded : Back) (back_size : ℕ)
     (old mid then new : StoreTold) (steps_before steps_then steps_now : ℕ) (v : ChainVerdict)
     → MayOpen (table_format Chained) old.files name (contents_of table) → mid.files ≡ old.files
     → then.files ≡ mid.files
@@ -211,7 +213,8 @@ checked : (table : Table) (name back : List ℕ) (loaded : Back) (back_size : �
     → ChecksTable then.files table (chain_value table.rules loaded) (judgement v)
     → CarriesSizes v (table_size table) back_size
     → ChecksChain name back old new steps_before steps_now v
-checked table name back loaded back_size old mid then new steps_before steps_then steps_now v may
+verdict_over_back table name back loaded back_size old mid then new steps_before steps_then
+    steps_now v may
     same then_same kind named asked calls h back_sized more_asked more_calls steps told sizes =
     let contents : Contents = contents_of table in
     let read = (belongs (table_format Chained) may.bytes (contents_of table) may.opens).read in
@@ -268,7 +271,7 @@ module _ (table : Table) (name back : List ℕ) (loaded : Back) (old mid then ne
       → ToldOver name back old new steps_before steps_now result
   result_told (Ok v) then_same kind named told sizes outside = record {
     checked =
-        checked table name back loaded (size_of loaded.groups) old mid
+        verdict_over_back table name back loaded (size_of loaded.groups) old mid
         then new steps_before steps_then steps_now v may same then_same kind named asked calls h
         refl
         more_asked more_calls steps told sizes;

@@ -36,7 +36,7 @@ use Rattle.frz_report.specs.declared.fault.ReportFault.TheVariants as faults
 use Rattle.frz_report.specs.declared.fault.Totals.{Totals}
 use Rattle.frz_report.specs.Reports.{StoreCause, WritesOfFile, WritesOfTable}
 use Rattle.frz_report.specs.Ending.{end_by}
-use Rattle.frz_report.proofs.Lemmas.{MayReport, report_ended, report_said, unreported}
+use Rattle.frz_report.proofs.Lemmas.{MayReport, nothing_reported, report_ended, report_said}
 use Rattle.frz_commands_ask.proofs.ReportMeans.{report_means}
 use Rattle.frz_commands_ask.specs.Reporting.{report_at, report_by, report_of, reporting_at, reporting_costs, report_words}
 
@@ -156,7 +156,7 @@ module _ (name : List ℕ) (table : Table) (old mid new : StoreTold) (input : So
       → Ran (reporting_at name) (Stopped fault) (world old input out_old before)
       (world new input out_new now)
   unread_ends fault meets same =
-      unreported (reporting_at name) (may_report name) table.rules (value_by table.rules)
+      nothing_reported (reporting_at name) (may_report name) table.rules (value_by table.rules)
       (kept_codes (contents_of table) begun.opens.bytes) old new input out_old out_new before now
       quiet_all begun.later
       (λ files left agrees. given_answer name (contents_of table) begun.opens.bytes files left

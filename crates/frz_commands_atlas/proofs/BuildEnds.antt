@@ -47,7 +47,7 @@ use Rattle.frz_atlas_prelude.specs.BackLines.{back_status}
 use Rattle.frz_atlas_prelude.specs.Ending.{EndsAt, HasSmallPlace}
 use Rattle.frz_atlas_prelude.specs.Names.{has_twice}
 use Rattle.frz_atlas_prelude.specs.Tables.{AreTablesIn}
-use Rattle.frz_atlas_prelude.proofs.Lemmas.{Holds, ended_at, held_rules, holds, judged_exact, may_hold_there, place_refused, without_second}
+use Rattle.frz_atlas_prelude.proofs.Lemmas.{Holds, apart_names_hold, ended_at, held_rules, judged_exact, may_hold_there, place_refused, without_second}
 use Rattle.frz_commands_atlas.specs.Building.{IsBuiltAt, build_costs, building_at, if_rules, made, no_back, no_rules, size_by}
 use Rattle.frz_commands_atlas.proofs.BuildOnce.{some_build}
 
@@ -136,7 +136,8 @@ module _ (rules table : List ℕ) (behind : List (List ℕ))
   holds_these_tables : (helds : List (Option (List ℕ))) → MayHoldAll mid.files behind helds
       → Holds old.files rules behind (Some text) helds
   holds_these_tables helds may =
-      holds old.files rules behind (without_second rules table behind apart) (Some text) helds
+      apart_names_hold old.files rules behind (without_second rules table behind apart) (Some text)
+      helds
       (subst (λ (x : Option (List ℕ)). MayHold old.files rules x) text_read.due.0
       (may_hold_there old.files text_read.files rules text_read.agrees))
       (subst (λ (o : Option Files). MayHoldAll o behind helds) quiet.unwritten.files may)
@@ -148,11 +149,12 @@ module _ (rules table : List ℕ) (behind : List (List ℕ))
     abbrev done : World
     done = world new input out now
 
-    spends : (helds : List (Option (List ℕ))) (h : Holds old.files rules behind (Some text) helds)
+    spent_within_costs : (helds : List (Option (List ℕ)))
+        (h : Holds old.files rules behind (Some text) helds)
         → WithinBuilding text helds mid new before now
         → WithinCosts (build_costs (h.all.files rules) (map h.all.files behind)) (spent start)
         (spent done)
-    spends helds h within =
+    spent_within_costs helds h within =
         let steps = subst (λ (x : Result RuleLines RulesFault). now ≤ before + if_read x
         (sum_by steps_of helds + 4 * text_size x)) text_is_accepted within.steps in
         let asked = subst (λ (x : Result RuleLines RulesFault). new.asked ≤ mid.asked + if_read x
@@ -219,7 +221,7 @@ module _ (rules table : List ℕ) (behind : List (List ℕ))
           answer = subst (λ (n : ℕ). IsBuiltAt rules table behind h.all.files
               (says statuses.Success (built_line n) (put h.all.files table b.bytes))) (sym b.sized)
               whole;
-          costs = (let c = spends (all_held b.tables) h b.within in
+          costs = (let c = spent_within_costs (all_held b.tables) h b.within in
               record { steps = c.steps; calls = c.calls; asked = c.asked });
         })
 
@@ -228,25 +230,25 @@ module _ (rules table : List ℕ) (behind : List (List ℕ))
       abbrev h : Holds old.files rules behind (Some text) r.helds
       h = holds_these_tables r.helds r.may_all
 
-      some : (files : Files) (left : List ℕ) → Agrees start files left
+      refusal_begun : (files : Files) (left : List ℕ) → Agrees start files left
           → Begun (building_at rules table behind) files left start done
-      some files left agrees = record {
+      refusal_begun files left agrees = record {
         found = found r.helds h files left agrees;
         some = some_build rules table behind h.all.files;
-        costs = spends r.helds h r.within;
+        costs = spent_within_costs r.helds h r.within;
       }
 
       rose_all : Rose mid.faults new.faults → Rose old.faults new.faults
       rose_all rose = subst (λ (n : ℕ). Rose n new.faults) fine.faults rose
 
-      quietly : StoreQuiet mid new → StoreQuiet old new
-      quietly more = quiet_after old mid new quiet more
+      quiet_from_start : StoreQuiet mid new → StoreQuiet old new
+      quiet_from_start more = quiet_after old mid new quiet more
 
       -- the store failed within the bytes
-      partly : FailsWriting text table r.helds mid new → Rose mid.faults new.faults
+      written_in_part : FailsWriting text table r.helds mid new → Rose mid.faults new.faults
           → EndsAt Failed end out after
           → Ran (building_at rules table behind) end start (world new input after now)
-      partly f rose ends =
+      written_in_part f rose ends =
           subst (λ (o : SinkTold). Ran (building_at rules table behind) end start
           (world new input o now)) (sym ends.1)
           (not_written (building_at rules table behind) table f.bytes start new now later refl refl
@@ -262,7 +264,7 @@ module _ (rules table : List ℕ) (behind : List (List ℕ))
               text = λ e. cc;
             };
             given = refl;
-            costs = (let c = spends r.helds h r.within in
+            costs = (let c = spent_within_costs r.helds h r.within in
                 record { steps = c.steps; calls = c.calls; asked = c.asked });
           }))
 
@@ -275,7 +277,8 @@ module _ (rules table : List ℕ) (behind : List (List ℕ))
       by_fault (Table f) refused cause ends = absurd refused
       by_fault (Back place f) refused cause ends =
           ended_at (building_at rules table behind) end start done after
-          (quiet_both old new input out before now (quietly refused.2) later) (Back place f) (
+          (quiet_both old new input out before now (quiet_from_start refused.2) later)
+          (Back place f) (
             own_back f rules table behind,
             fine_store old new input out before now (fine_after old mid new fine cause),
           ) ends
@@ -290,17 +293,17 @@ module _ (rules table : List ℕ) (behind : List (List ℕ))
                   (sym h.others) refused.1;
               told = refl;
             });
-            costs = spends r.helds h r.within;
+            costs = spent_within_costs r.helds h r.within;
           })
       by_fault Failed (rose, inl early) cause ends =
           ended_at (building_at rules table behind) end start done after
-          (quiet_both old new input out before now (quietly early.1) later) Failed
-          (refl, rose_all rose) ends (λ files left agrees. some files left agrees)
-      by_fault Failed (rose, inr part) cause ends = partly part rose ends
+          (quiet_both old new input out before now (quiet_from_start early.1) later) Failed
+          (refl, rose_all rose) ends (λ files left agrees. refusal_begun files left agrees)
+      by_fault Failed (rose, inr part) cause ends = written_in_part part rose ends
       by_fault NoMemory refused cause ends =
           ended_at (building_at rules table behind) end start done after
-          (quiet_both old new input out before now (quietly refused.1) later) NoMemory
-          refl ends (λ files left agrees. some files left agrees)
+          (quiet_both old new input out before now (quiet_from_start refused.1) later) NoMemory
+          refl ends (λ files left agrees. refusal_begun files left agrees)
 
       pub not_made_so : HasAtlasCause {T = ℕ} (Err fault) mid new → EndsAt fault end out after
           → Ran (building_at rules table behind) end start (world new input after now)

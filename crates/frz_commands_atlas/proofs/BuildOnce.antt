@@ -106,20 +106,21 @@ module _ (rules table : List ℕ) (behind : List (List ℕ)) (m : Files) where
         ∙ ap (λ (l : List ℕ). says Success (built_line (size_of h.lines.groups)) (put m table l))
         same_bytes ∙ sym h.told
 
-  unrefused : (a b : Answer) → MakesAtlas rules table behind m a → Refuses rules behind m b → ⊥
-  unrefused a b h k =
+  made_is_not_refused : (a b : Answer) → MakesAtlas rules table behind m a
+      → Refuses rules behind m b → ⊥
+  made_is_not_refused a b h k =
       not_refused rules behind m h.text h.lines h.tables b h.there h.accepted h.behind_it k
 
   one_build : (a b : Answer) → IsBuiltAt rules table behind m a → IsBuiltAt rules table behind m b
       → b ≡ a
   one_build a b (no_rules h) (no_rules k) = one_refusal rules behind m a b (of_rules h) (of_rules k)
   one_build a b (no_rules h) (no_back k) = one_refusal rules behind m a b (of_rules h) (of_back k)
-  one_build a b (no_rules h) (made k) = absurd (unrefused b a k (of_rules h))
+  one_build a b (no_rules h) (made k) = absurd (made_is_not_refused b a k (of_rules h))
   one_build a b (no_back h) (no_rules k) = one_refusal rules behind m a b (of_back h) (of_rules k)
   one_build a b (no_back h) (no_back k) = one_refusal rules behind m a b (of_back h) (of_back k)
-  one_build a b (no_back h) (made k) = absurd (unrefused b a k (of_back h))
-  one_build a b (made h) (no_rules k) = absurd (unrefused a b h (of_rules k))
-  one_build a b (made h) (no_back k) = absurd (unrefused a b h (of_back k))
+  one_build a b (no_back h) (made k) = absurd (made_is_not_refused b a k (of_back h))
+  one_build a b (made h) (no_rules k) = absurd (made_is_not_refused a b h (of_rules k))
+  one_build a b (made h) (no_back k) = absurd (made_is_not_refused a b h (of_back k))
   one_build a b (made h) (made k) = same_made a b h k
 
   pub one_built : HasOneAnswer (λ a. IsBuiltAt rules table behind m a)

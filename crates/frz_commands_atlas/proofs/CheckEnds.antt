@@ -29,7 +29,7 @@ use Rattle.frz_atlas_prelude.specs.declared.names.TheConstants.{MOST_BACKS}
 use Rattle.frz_atlas_prelude.specs.BackLines.{back_status}
 use Rattle.frz_atlas_prelude.specs.Ending.{EndsAt, HasSmallPlace}
 use Rattle.frz_atlas_prelude.specs.Names.{has_twice}
-use Rattle.frz_atlas_prelude.proofs.Lemmas.{AnswersAt, Holds, MayEndAt, ended_at, holds, judged_exact, place_refused}
+use Rattle.frz_atlas_prelude.proofs.Lemmas.{AnswersAt, Holds, MayEndAt, apart_names_hold, ended_at, judged_exact, place_refused}
 use Rattle.frz_commands_atlas.specs.Checking.{check_costs, judged, no_back, no_table, verdict_line, verdict_status}
 use Rattle.frz_commands_atlas.specs.CheckMeans.{checking_at}
 use Rattle.frz_commands_atlas.proofs.CheckOnce.{some_check}
@@ -57,12 +57,12 @@ module _ (table : List ℕ) (behind : List (List ℕ)) (apart : has_twice (table
     abbrev finish : World
     finish = world new input after now
 
-    spends : (held : Option (List ℕ)) (helds : List (Option (List ℕ)))
+    spent_within_costs : (held : Option (List ℕ)) (helds : List (Option (List ℕ)))
         (h : Holds old.files table behind held helds)
         → WithinChecking held helds old new before now
         → WithinCosts (check_costs (h.all.files table) (map h.all.files behind)) (spent start)
         (spent mid)
-    spends held helds h within =
+    spent_within_costs held helds h within =
         subst (λ (x : Option (List ℕ)). WithinCosts (check_costs x (map h.all.files behind))
         (spent start) (spent mid)) (sym h.here)
         (subst (λ (l : List (Option (List ℕ))). WithinCosts (check_costs held l) (spent start)
@@ -81,7 +81,8 @@ module _ (table : List ℕ) (behind : List (List ℕ)) (apart : has_twice (table
         (fine_store old new input out before now fine)
         (own_verdict checked.verdict table behind) told
         (λ files left agrees.
-        let h = holds old.files table behind apart (Some c.bytes) (all_held c.tables) c.may
+        let h = apart_names_hold old.files table behind apart (Some c.bytes) (all_held c.tables)
+        c.may
         c.may_all in
         record {
           found = found_where (checking_at table behind) h.all.files files left start (λ e. cc)
@@ -101,20 +102,20 @@ module _ (table : List ℕ) (behind : List (List ℕ)) (apart : has_twice (table
               ∙ ap (λ (l : List ℕ). says (verdict_status checked.verdict)
               (verdict_line (size_of c.contents.rules.groups) l checked.verdict) h.all.files)
               c.sizes);
-          costs = spends (Some c.bytes) (all_held c.tables) h c.within;
+          costs = spent_within_costs (Some c.bytes) (all_held c.tables) h c.within;
         })
 
     module _ (fault : AtlasFault) (r : RefusesAtlas table behind old new before now fault) where
       abbrev h : Holds old.files table behind r.held r.helds
-      h = holds old.files table behind apart r.held r.helds r.may r.may_all
+      h = apart_names_hold old.files table behind apart r.held r.helds r.may r.may_all
 
-      some : (files : Files) (left : List ℕ) → Agrees start files left
+      refusal_begun : (files : Files) (left : List ℕ) → Agrees start files left
           → Begun (checking_at table behind) files left start mid
-      some files left agrees = record {
+      refusal_begun files left agrees = record {
         found = found_where (checking_at table behind) h.all.files files left start (λ e. cc)
             h.all.agrees agrees;
         some = some_check table behind h.all.files;
-        costs = spends r.held r.helds h r.within;
+        costs = spent_within_costs r.held r.helds h r.within;
       }
 
       may_end : (f : AtlasFault) → IsRefusedAtlas r.held r.helds f
@@ -142,7 +143,7 @@ module _ (table : List ℕ) (behind : List (List ℕ)) (apart : has_twice (table
           refused = ap (opened (table_format Atlas)) h.here ∙ refused;
           told = refl;
         });
-        costs = spends r.held r.helds h r.within;
+        costs = spent_within_costs r.held r.helds h r.within;
       }
       answers_at (Back place f) refused files left agrees = record {
         found = found_where (checking_at table behind) h.all.files files left start (λ e. cc)
@@ -155,10 +156,10 @@ module _ (table : List ℕ) (behind : List (List ℕ)) (apart : has_twice (table
               refused.1;
           told = refl;
         });
-        costs = spends r.held r.helds h r.within;
+        costs = spent_within_costs r.held r.helds h r.within;
       }
-      answers_at Failed refused files left agrees = some files left agrees
-      answers_at NoMemory refused files left agrees = some files left agrees
+      answers_at Failed refused files left agrees = refusal_begun files left agrees
+      answers_at NoMemory refused files left agrees = refusal_begun files left agrees
 
       -- something is wrong, or could not be read
       pub refused_so : HasAtlasCause {T = Checked} (Err fault) old new → EndsAt fault end out after

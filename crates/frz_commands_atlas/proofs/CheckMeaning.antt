@@ -60,8 +60,9 @@ module _ (table : List ℕ) (behind : List (List ℕ)) (files : Files) (are : Ho
     own_bytes : AreBytes h.bytes
     own_bytes = subst (λ (o : Option (List ℕ)). IfSome o AreBytes) h.there (are table)
 
-    codes : (side : Colour) → IsTableOf rules value side (kept_codes h.contents h.bytes side)
-    codes = subst
+    kept_codes_are_table : (side : Colour)
+        → IsTableOf rules value side (kept_codes h.contents h.bytes side)
+    kept_codes_are_table = subst
         (λ (backs : List Back). (side : Colour) → IsTableOf rules (atlas_value rules backs) side
         (kept_codes h.contents h.bytes side)) (sym (links_backs h.tables)) h.judged
 
@@ -86,20 +87,25 @@ module _ (table : List ℕ) (behind : List (List ℕ)) (files : Files) (are : Ho
           black = kept_codes h.contents h.bytes Black;
           white_is = refl;
           black_is = refl;
-          white_table = codes White;
-          black_table = codes Black;
-          one_file = tables_are_one Atlas value h.contents h.bytes own_bytes h.opens codes;
+          white_table = kept_codes_are_table White;
+          black_table = kept_codes_are_table Black;
+          one_file = tables_are_one Atlas value h.contents h.bytes own_bytes h.opens
+              kept_codes_are_table;
           white_means =
-              table_means rules value White (kept_codes h.contents h.bytes White) (codes White);
+              table_means rules value White (kept_codes h.contents h.bytes White)
+              (kept_codes_are_table White);
           black_means =
-              table_means rules value Black (kept_codes h.contents h.bytes Black) (codes Black);
+              table_means rules value Black (kept_codes h.contents h.bytes Black)
+              (kept_codes_are_table Black);
           true_exits = λ own lines. exits_over_true rules links links_exact lines own;
           white_mates = mates_within rules links links_exact White;
           black_mates = mates_within rules links links_exact Black;
           white_exact =
-              table_exactly rules value White (kept_codes h.contents h.bytes White) (codes White);
+              table_exactly rules value White (kept_codes h.contents h.bytes White)
+              (kept_codes_are_table White);
           black_exact =
-              table_exactly rules value Black (kept_codes h.contents h.bytes Black) (codes Black);
+              table_exactly rules value Black (kept_codes h.contents h.bytes Black)
+              (kept_codes_are_table Black);
           decided = tables_decide rules links links_exact;
         }
 

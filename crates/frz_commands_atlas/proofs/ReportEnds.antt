@@ -46,7 +46,7 @@ use Rattle.frz_answer.proofs.Lemmas.{Begun, SaysAll, fine_store, quiet_both}
 use Rattle.frz_prelude.proofs.Lemmas.{found_where, table_own}
 use Rattle.frz_atlas_prelude.specs.Ending.{EndsAt}
 use Rattle.frz_atlas_prelude.specs.Names.{has_twice}
-use Rattle.frz_atlas_prelude.proofs.Lemmas.{AnswersAt, Holds, MayEndAt, ended_at, holds}
+use Rattle.frz_atlas_prelude.proofs.Lemmas.{AnswersAt, Holds, MayEndAt, apart_names_hold, ended_at}
 use Rattle.frz_commands_atlas.specs.Reporting.{report_at, report_by, report_costs, report_over, reporting_at, value_behind}
 use Rattle.frz_commands_atlas.proofs.ReportMeaning.{some_at}
 
@@ -125,11 +125,12 @@ module _ (table : List ℕ) (behind : List (List ℕ)) (apart : has_twice (table
     kept = kept_codes contents l.bytes
 
     -- the report is the answer
-    answers : (files : Files) (left : List ℕ) → Agrees start files left
+    report_is_answer : (files : Files) (left : List ℕ) → Agrees start files left
         → SaysAll (reporting_at table behind) Success (report_over contents l.bytes l.tables) files
         left start mid
-    answers files left agrees =
-        let h = holds old.files table behind apart (Some l.bytes) (all_held l.tables) l.may
+    report_is_answer files left agrees =
+        let h = apart_names_hold old.files table behind apart (Some l.bytes) (all_held l.tables)
+        l.may
         l.may_all in
         record {
           found = found_where (reporting_at table behind) h.all.files files left start (λ e. cc)
@@ -148,7 +149,7 @@ module _ (table : List ℕ) (behind : List (List ℕ)) (apart : has_twice (table
         → WritesReport contents.rules value kept result out after
     by_file result after h =
         subst (λ (c : Colour → List ℕ). WritesReport contents.rules value c result out after)
-        (λ j side. same side j)
+        (λ j side. sides_are_kept side j)
         (subst (λ (b : Back). WritesReport contents.rules value
         (λ side. of_side side b.white b.black) result out after) l.keeps
         (subst (λ (b : List Back). WritesReport contents.rules (atlas_value contents.rules b)
@@ -156,9 +157,9 @@ module _ (table : List ℕ) (behind : List (List ℕ)) (apart : has_twice (table
         (sym (loaded_backs given.backs.items)
         ∙ kept_backs (map link_loaded given.backs.items) l.tables l.all_keep) h))
       where
-        same : (side : Colour) → of_side side (kept White) (kept Black) ≡ kept side
-        same White = refl
-        same Black = refl
+        sides_are_kept : (side : Colour) → of_side side (kept White) (kept Black) ≡ kept side
+        sides_are_kept White = refl
+        sides_are_kept Black = refl
 
     pub told_so : (result : Result Totals ReportFault) (after : SinkTold)
         → HasAtlasCause {T = LoadedAtlas} (Ok given) old new
@@ -169,26 +170,27 @@ module _ (table : List ℕ) (behind : List (List ℕ)) (apart : has_twice (table
         → Ran (reporting_at table behind) (end_by result) start (world new input after now)
     told_so result after fine never h =
         report_ended (reporting_at table behind) (may_report table behind) contents.rules value kept
-        old new input out after before now quiet later answers result
+        old new input out after before now quiet later report_is_answer result
         (loaded_cause old new result fine never) (by_file result after h)
 
   -- something is refused, or could not be read
   module _ (fault : AtlasFault) (r : RefusesToRead table behind old new fault)
       (steps : now ≤ before) where
     abbrev h : Holds old.files table behind r.held r.helds
-    h = holds old.files table behind apart r.held r.helds r.may r.may_all
+    h = apart_names_hold old.files table behind apart r.held r.helds r.may r.may_all
 
-    costs : WithinCosts (report_costs (h.all.files table) (map h.all.files behind)) (spent start)
+    refused_within_costs : WithinCosts (report_costs (h.all.files table) (map h.all.files behind))
+        (spent start)
         (spent mid)
-    costs = reading_spends r.held r.helds h r.within (omega (arith, steps))
+    refused_within_costs = reading_spends r.held r.helds h r.within (omega (arith, steps))
 
-    some : (files : Files) (left : List ℕ) → Agrees start files left
+    refusal_begun : (files : Files) (left : List ℕ) → Agrees start files left
         → Begun (reporting_at table behind) files left start mid
-    some files left agrees = record {
+    refusal_begun files left agrees = record {
       found = found_where (reporting_at table behind) h.all.files files left start (λ e. cc)
           h.all.agrees agrees;
       some = some_at table behind h.all.files;
-      costs = costs;
+      costs = refused_within_costs;
     }
 
     may_end : (f : AtlasFault) → IsUnopenedAtlas r.held r.helds f
@@ -216,18 +218,18 @@ module _ (table : List ℕ) (behind : List (List ℕ)) (apart : has_twice (table
           h.all.agrees agrees;
       answer = sym (answer_by table behind h.all.files r.held r.helds h.here h.others (Err f)
           (opened_all r.helds) refused refl);
-      costs = costs;
+      costs = refused_within_costs;
     }
     answers_at (BackAt place (Refused f)) refused files left agrees = record {
       found = found_where (reporting_at table behind) h.all.files files left start (λ e. cc)
           h.all.agrees agrees;
       answer = sym (answer_by table behind h.all.files r.held r.helds h.here h.others
           (Ok refused.0.0) (Err (place, f)) refused.0.1 refused.1);
-      costs = costs;
+      costs = refused_within_costs;
     }
     answers_at (BackAt place (Wrong wrong)) refused files left agrees = absurd refused
-    answers_at Failed refused files left agrees = some files left agrees
-    answers_at NoMemory refused files left agrees = some files left agrees
+    answers_at Failed refused files left agrees = refusal_begun files left agrees
+    answers_at NoMemory refused files left agrees = refusal_begun files left agrees
 
     pub refused_so : (end : End) (after : SinkTold)
         → HasAtlasCause {T = LoadedAtlas} (Err fault) old new → EndsAt fault end out after

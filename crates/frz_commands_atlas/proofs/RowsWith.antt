@@ -12,7 +12,7 @@ use Rattle.frz_store.specs.Files.{Files}
 use Rattle.frz_table.specs.Tables.{Table, table_size}
 use Rattle.frz_ways.specs.Kept.{told_codes, MayRead}
 use Rattle.frz_ways.specs.Reads.{AreApart, AreCodesFor}
-use Rattle.frz_ways.proofs.Lemmas.{gather}
+use Rattle.frz_ways.proofs.Lemmas.{gathered_codes_may_be_read}
 use Rattle.frz_commands_atlas.specs.declared.rows.Row.{Row}
 use Rattle.frz_commands_atlas.specs.MoveRows.{row_by}
 
@@ -64,9 +64,11 @@ rows_gathered table told mid arms nexts white black rows are within apart same f
     let all = subst (λ (l : List (Arm Step ℕ Value)). All (λ a. IsWithin (table_size table) a.next)
     l) (sym are) within in
     let different = subst (λ (l : List (Arm Step ℕ Value)). AreApart l) (sym are) apart in
-    let w = gather (told_codes table White told) White (table_size table) nexts white all different
+    let w = gathered_codes_may_be_read (told_codes table White told) White (table_size table) nexts
+    white all different
     for_white whites in
-    let b = gather (told_codes table Black told) Black (table_size table) nexts black all different
+    let b = gathered_codes_may_be_read (told_codes table Black told) Black (table_size table) nexts
+    black all different
     for_black (subst (λ (o : Option Files). IfSome (told_codes table Black o)
     (λ kept. black ≡ map (arm_code Black kept) nexts)) same blacks) in
     (w.0, b.0, w.1, b.1, made w.0 b.0 w.2 b.2 ∙ ap (map (row_by w.0 b.0)) are)

@@ -33,7 +33,7 @@ use Rattle.frz_prelude.specs.Refusals.{status_of, refusal_line}
 use Rattle.frz_prelude.specs.declared.refused.Refused.TheVariants as refusals
 use Rattle.frz_prelude.proofs.Lemmas.{found_where}
 use Rattle.frz_atlas_prelude.specs.Names.{has_twice}
-use Rattle.frz_atlas_prelude.proofs.Lemmas.{Holds, holds}
+use Rattle.frz_atlas_prelude.proofs.Lemmas.{Holds, apart_names_hold}
 use Rattle.frz_ways.specs.declared.end.LineFault.TheVariants as faults
 use Rattle.frz_ways.specs.declared.opponent.Opponent.{Opponent}
 use Rattle.frz_ways.specs.declared.opponent.Opponent.TheVariants.{Codes, Input as Lines}
@@ -141,7 +141,8 @@ module _ (player : Player) (table : List ℕ) (behind_it : List (List ℕ)) (p :
   job = journeying_at player table behind_it p
 
   abbrev h : Holds store.files table behind_it (Some l.bytes) (all_held l.tables)
-  h = holds store.files table behind_it apart (Some l.bytes) (all_held l.tables) l.may l.may_all
+  h = apart_names_hold store.files table behind_it apart (Some l.bytes) (all_held l.tables) l.may
+      l.may_all
 
   abbrev files : Files
   files = h.all.files

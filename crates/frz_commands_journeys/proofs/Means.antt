@@ -202,10 +202,11 @@ module _ (opponent : Opponent) (side : Colour) (answer : Result WayEnd PlayFault
     LastBy before table stage stages next =
         MatchOption next (P table stage) (λ n. AtLast P (take n.0 before) n.1 stages)
 
-    alone : (before : List Link) (table : Link) (stage : Stage) (next : Option (ℕ × Link))
+    never_of_single_stage : (before : List Link) (table : Link) (stage : Stage)
+        (next : Option (ℕ × Link))
         → answer ≡ told side stage.end → LastBy before table stage [] next → ⊥
-    alone before table stage None e k = never table stage e k
-    alone before table stage (Some n) e k = k
+    never_of_single_stage before table stage None e k = never table stage e k
+    never_of_single_stage before table stage (Some n) e k = k
 
     later_last : (before : List Link) (table : Link) (stage : Stage) (start : Board) (mid : Input)
         (stages : List Stage) (left : Input) → (stages ≡ [] → ⊥) → (next : Option (ℕ × Link))
@@ -224,7 +225,8 @@ module _ (opponent : Opponent) (side : Colour) (answer : Result WayEnd PlayFault
         → Arrives side stages place answer → AtLast P before table stages → ⊥
     never_last before table at start input [] left j place h k = h
     never_last before table at start input (stage ∷ []) left j place h k =
-        alone before table stage (onward before table stage.start stage.plies stage.end) h.1 k
+        never_of_single_stage before table stage
+        (onward before table stage.start stage.plies stage.end) h.1 k
     never_last before table at start input (stage ∷ next ∷ stages) left j place h k =
         later_last before table stage start j.0 (next ∷ stages) left (λ e. cc)
         (onward before table start stage.plies stage.end)
@@ -310,14 +312,14 @@ module _ (laws : JourneyLaws) (player : Player) (table : List ℕ) (behind : Lis
           ap (λ (l : List ℕ). slice_index l (Num contents.rules.groups p))
           (own_codes side contents bytes) ∙ e
 
-      won : (n : ℕ) → start_code has ≡ code_of (Wins n)
+      won_at_last : (n : ℕ) → start_code has ≡ code_of (Wins n)
           → AtLast (IsWonAt side) links own h.stages
-      won n e =
+      won_at_last n e =
           laws.won player.opponent side links own Own p (first_input heard) h.stages h.left n
           (own_sets tables) inside (own_code (2 + 2 * n) e) h.journey
 
-      held : start_code has ≡ code_of Holds → AtLast (IsHeldAt side) links own h.stages
-      held e =
+      held_at_last : start_code has ≡ code_of Holds → AtLast (IsHeldAt side) links own h.stages
+      held_at_last e =
           laws.held player.opponent side links own Own p (first_input heard) h.stages h.left
           (own_sets tables) inside (own_code 1 e) h.journey
 
@@ -383,10 +385,10 @@ module _ (laws : JourneyLaws) (player : Player) (table : List ℕ) (behind : Lis
             arrives = so;
             no_win = λ n e. not_last (Err fault) (IsWonAt side)
                 (λ t stage is_end k. no_bound_won side t (after_plies stage.start stage.plies)
-                stage.end is_end k) so.arrives (won n e);
+                stage.end is_end k) so.arrives (won_at_last n e);
             no_hold = λ e. not_last (Err fault) (IsHeldAt side)
                 (λ t stage is_end k. no_bound_held side t (after_plies stage.start stage.plies)
-                stage.end is_end k) so.arrives (held e);
+                stage.end is_end k) so.arrives (held_at_last e);
           }))
       by_fault fault is (limit which) =
           let so = arrives_so (Err fault) is in
@@ -407,8 +409,8 @@ module _ (laws : JourneyLaws) (player : Player) (table : List ℕ) (behind : Lis
             has = has;
             last = last;
             arrives = arrives_so (Ok last) is;
-            win = won;
-            hold = held;
+            win = won_at_last;
+            hold = held_at_last;
             where_exact = λ keeps. bound_kept (atlas_value contents.rules (backs_of links)) contents
                 bytes keeps side p inside;
             true_exits = λ exact lines all. exits_over_true contents.rules links exact all lines;

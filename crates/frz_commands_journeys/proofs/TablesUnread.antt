@@ -31,7 +31,7 @@ use Rattle.frz_prelude.proofs.Lemmas.{found_where, table_own}
 use Rattle.frz_atlas_prelude.specs.BackLines.{back_line}
 use Rattle.frz_atlas_prelude.specs.Ending.{EndsAt}
 use Rattle.frz_atlas_prelude.specs.Names.{has_twice}
-use Rattle.frz_atlas_prelude.proofs.Lemmas.{AnswersAt, Holds, MayEndAt, ended_at, holds}
+use Rattle.frz_atlas_prelude.proofs.Lemmas.{AnswersAt, Holds, MayEndAt, apart_names_hold, ended_at}
 use Rattle.frz_ways.specs.declared.opponent.Opponent.{Opponent}
 use Rattle.frz_ways.specs.declared.opponent.Opponent.TheVariants.{Codes, Input}
 use Rattle.frz_ways.specs.declared.opponent.Player.{Player}
@@ -83,7 +83,7 @@ module _ (there : JourneyThere) (player : Player) (table : List ℕ) (behind : L
   mid = world new input out now
 
   abbrev h : Holds old.files table behind r.held r.helds
-  h = holds old.files table behind apart r.held r.helds r.may r.may_all
+  h = apart_names_hold old.files table behind apart r.held r.helds r.may r.may_all
 
   abbrev files : Files
   files = h.all.files

@@ -20,7 +20,7 @@ use Rattle.frz_answer.specs.Answers.{Answer, says}
 use Rattle.frz_prelude.specs.Refusals.{status_of}
 use Rattle.frz_prelude.specs.declared.refused.Refused.{Refused as Refusal}
 use Rattle.frz_prelude.proofs.Lemmas.{by_table_status, of_rules as by_rules}
-use Rattle.frz_premises.proofs.Lemmas.{all_prove, all_true, line_true, needs, none_hold, none_holds, true_over}
+use Rattle.frz_premises.proofs.Lemmas.{all_prove, all_true, believed_needs_belief, line_true, none_hold, none_holds, true_over}
 use Rattle.frz_exit_lines.proofs.Lemmas.{as_many_lines, said_there}
 use Rattle.frz_atlas_prelude.specs.BackLines.{back_status}
 use Rattle.frz_atlas_prelude.specs.RulesRefusals.{Refuses, of_back, of_rules}
@@ -40,7 +40,7 @@ lines_mean text rules links read exact = record {
   said = λ k n e. said_there text rules read k n e;
   not_believed = λ own i line there h q x d.
       line_true rules (value_by rules) links (all_prove links exact own) i line there h q x d;
-  believed = λ i line q h. needs rules (value_by rules) links i line q h;
+  believed = λ i line q h. believed_needs_belief rules (value_by rules) links i line q h;
 }
 
 -- and of each table's text, with the tables before it
@@ -84,8 +84,8 @@ module _ (rules : List ℕ) (behind : List (List ℕ)) (files : Files) (are : Ho
         (all_true links links_exact (none_hold links parts.0))
         (none_holds h.lines links parts.1)
 
-    tells : TellsPremises rules behind files a.text
-    tells = record {
+    answer_tells_premises : TellsPremises rules behind files a.text
+    answer_tells_premises = record {
       rules_text = h.text;
       there = h.there;
       lines = h.lines;
@@ -127,4 +127,4 @@ module _ (rules : List ℕ) (behind : List (List ℕ)) (files : Files) (are : Ho
       (by_rules (λ (why : Refusal). MeansStatus rules behind files a (status_of why))
       (files rules) h.why h.refused (of_rules h) (λ fault. of_rules h))
   premises_mean (no_back h) = means_so _ _ h.told (means_back h.fault (of_back h))
-  premises_mean (found h) = means_so Success _ h.told (tells h)
+  premises_mean (found h) = means_so Success _ h.told (answer_tells_premises h)

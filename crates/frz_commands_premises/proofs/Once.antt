@@ -84,19 +84,20 @@ module _ (rules : List ℕ) (behind : List (List ℕ)) (m : Files) where
       ∙ ap (λ (l : List TableBytes). says Success (premises_text h.text h.lines l) m) same_tables
       ∙ sym h.told
 
-  unrefused : (a b : Answer) → FindsPremises rules behind m a → Refuses rules behind m b → ⊥
-  unrefused a b h k =
+  found_is_not_refused : (a b : Answer) → FindsPremises rules behind m a → Refuses rules behind m b
+      → ⊥
+  found_is_not_refused a b h k =
       not_refused rules behind m h.text h.lines h.tables b h.there h.accepted h.behind_it k
 
   one_of : (a b : Answer) → IsToldAt rules behind m a → IsToldAt rules behind m b → b ≡ a
   one_of a b (no_rules h) (no_rules k) = one_refusal rules behind m a b (of_rules h) (of_rules k)
   one_of a b (no_rules h) (no_back k) = one_refusal rules behind m a b (of_rules h) (of_back k)
-  one_of a b (no_rules h) (found k) = absurd (unrefused b a k (of_rules h))
+  one_of a b (no_rules h) (found k) = absurd (found_is_not_refused b a k (of_rules h))
   one_of a b (no_back h) (no_rules k) = one_refusal rules behind m a b (of_back h) (of_rules k)
   one_of a b (no_back h) (no_back k) = one_refusal rules behind m a b (of_back h) (of_back k)
-  one_of a b (no_back h) (found k) = absurd (unrefused b a k (of_back h))
-  one_of a b (found h) (no_rules k) = absurd (unrefused a b h (of_rules k))
-  one_of a b (found h) (no_back k) = absurd (unrefused a b h (of_back k))
+  one_of a b (no_back h) (found k) = absurd (found_is_not_refused b a k (of_back h))
+  one_of a b (found h) (no_rules k) = absurd (found_is_not_refused a b h (of_rules k))
+  one_of a b (found h) (no_back k) = absurd (found_is_not_refused a b h (of_back k))
   one_of a b (found h) (found k) = same_found a b h k
 
   pub one_told : HasOneAnswer (λ a. IsToldAt rules behind m a)

@@ -36,7 +36,7 @@ use Rattle.frz_atlas_prelude.specs.declared.names.TheConstants.{MOST_BACKS}
 use Rattle.frz_atlas_prelude.specs.BackLines.{back_status}
 use Rattle.frz_atlas_prelude.specs.Ending.{EndsAt, HasSmallPlace}
 use Rattle.frz_atlas_prelude.specs.Names.{has_twice}
-use Rattle.frz_atlas_prelude.proofs.Lemmas.{AnswersAt, Holds, MayEndAt, as_many, ended_at, held_rules, holds, judged_exact, may_hold_there, place_refused}
+use Rattle.frz_atlas_prelude.proofs.Lemmas.{AnswersAt, Holds, MayEndAt, apart_names_hold, as_many, ended_at, held_rules, judged_exact, may_hold_there, place_refused}
 use Rattle.frz_commands_premises.specs.declared.line.Line.{Line}
 use Rattle.frz_commands_premises.specs.Finding.{FindsLines, FindsNone, WithinFinding}
 use Rattle.frz_commands_premises.specs.LineTexts.{IsWritable, line_text}
@@ -111,7 +111,7 @@ module _ (rules : List ℕ) (behind : List (List ℕ)) (apart : has_twice (rules
   holds_these_tables : (helds : List (Option (List ℕ))) → MayHoldAll mid.files behind helds
       → Holds old.files rules behind (Some text) helds
   holds_these_tables helds may =
-      holds old.files rules behind apart (Some text) helds
+      apart_names_hold old.files rules behind apart (Some text) helds
       (subst (λ (x : Option (List ℕ)). MayHold old.files rules x) text_read.due.0
       (may_hold_there old.files text_read.files rules text_read.agrees))
       (subst (λ (o : Option Files). MayHoldAll o behind helds) quiet.unwritten.files may)
@@ -123,11 +123,12 @@ module _ (rules : List ℕ) (behind : List (List ℕ)) (apart : has_twice (rules
     abbrev done : World
     done = world new input out now
 
-    spends : (helds : List (Option (List ℕ))) (h : Holds old.files rules behind (Some text) helds)
+    spent_within_costs : (helds : List (Option (List ℕ)))
+        (h : Holds old.files rules behind (Some text) helds)
         → WithinFinding lines helds mid new before now
         → WithinCosts (premises_costs (h.all.files rules) (map h.all.files behind)) (spent start)
         (spent done)
-    spends helds h within =
+    spent_within_costs helds h within =
         let asked = within.asked in
         let calls = within.calls in
         let first_asked = subst (λ (x : Option (List ℕ)). mid.asked ≤ old.asked + asked_of x)
@@ -181,7 +182,7 @@ module _ (rules : List ℕ) (behind : List (List ℕ)) (apart : has_twice (rules
             behind_it = record { there = h.others; exact = judged_exact [] f.tables f.exact };
             told = refl;
           });
-          costs = spends (all_held f.tables) h f.within;
+          costs = spent_within_costs (all_held f.tables) h f.within;
         })
 
     -- a table is refused, or something could not be read
@@ -190,12 +191,12 @@ module _ (rules : List ℕ) (behind : List (List ℕ)) (apart : has_twice (rules
       abbrev h : Holds old.files rules behind (Some text) r.helds
       h = holds_these_tables r.helds r.may_all
 
-      some : (files : Files) (left : List ℕ) → Agrees start files left
+      refusal_begun : (files : Files) (left : List ℕ) → Agrees start files left
           → Begun (premising_at rules behind) files left start done
-      some files left agrees = record {
+      refusal_begun files left agrees = record {
         found = at_files r.helds h files left agrees;
         some = some_told rules behind h.all.files;
-        costs = spends r.helds h r.within;
+        costs = spent_within_costs r.helds h r.within;
       }
 
       may_end : (f : AtlasFault) → IsOneRefused r.helds f
@@ -227,10 +228,10 @@ module _ (rules : List ℕ) (behind : List (List ℕ)) (apart : has_twice (rules
               (sym h.others) refused;
           told = refl;
         });
-        costs = spends r.helds h r.within;
+        costs = spent_within_costs r.helds h r.within;
       }
-      answers_at Failed refused files left agrees = some files left agrees
-      answers_at NoMemory refused files left agrees = some files left agrees
+      answers_at Failed refused files left agrees = refusal_begun files left agrees
+      answers_at NoMemory refused files left agrees = refusal_begun files left agrees
 
       pub refused_so : HasAtlasCause {T = List Line} (Err fault) mid new → EndsAt fault end out after
           → Ran (premising_at rules behind) end start (world new input after now)

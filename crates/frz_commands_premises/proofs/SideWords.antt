@@ -14,7 +14,7 @@ use Rattle.frz_premises.specs.declared.sides.ExitValues.{ExitValues}
 use Rattle.frz_premises.specs.declared.sides.Strength.{Strength}
 use Rattle.frz_premises.specs.declared.sides.Strength.TheVariants.{Believed, Renounced, Undecided, Outcomes, Exact}
 use Rattle.frz_premises.specs.Sides.{exits_tell, renounces, strength_by}
-use Rattle.frz_premises.proofs.Lemmas.{all_true, exact, exact_outcomes, exact_wins, strong, true_over}
+use Rattle.frz_premises.proofs.Lemmas.{all_true, exact_outcomes, exact_wins, nothing_bad_where_exact, strong_side_is_decided, true_over}
 use Rattle.frz_commands_premises.specs.PremiseLines.{strength_over}
 use Rattle.frz_commands_premises.specs.SidesMean.{IsTrueInChess, StrengthMeans}
 
@@ -67,14 +67,14 @@ module _ (rules : RuleLines) (links : List Link) (side : Colour) (codes : List �
       let no : Undecided ≡ Believed = rw e at b in cc))
   by_word Outcomes e =
       let exits = true_unless (λ b. let no : Outcomes ≡ Believed = rw e at b in cc) in
-      let needs = strong rules believed told side (inl e) in
+      let needs = strong_side_is_decided rules believed told side (inl e) in
       exact_outcomes rules value side codes table needs.0 exits needs.1
   by_word Exact e =
       let exits = true_unless (λ b. let no : Exact ≡ Believed = rw e at b in cc) in
-      let needs = strong rules believed told side (inr e) in (
+      let needs = strong_side_is_decided rules believed told side (inr e) in (
         exact_outcomes rules value side codes table needs.0 exits needs.1,
         λ p n member. exact_wins rules value side codes table needs.0 exits needs.1
-            (exact rules believed told side e) p member n,
+            (nothing_bad_where_exact rules believed told side e) p member n,
       )
 
   pub word_means : StrengthMeans rules links side codes (strength_over rules links believed side)

@@ -56,20 +56,21 @@ same_side Black = refl
 -- behind the move that is played the side fails
 module _ (arena : Arena Step ℕ Value) (side : Colour) (codes : List ℕ) (number : ℕ)
     (a : Arm Step ℕ Value) (p : IsPlayedAt arena side codes number a) where
-  parts : ((not (same_colour p.mover side) || a.free) ≡ true)
+  both_tests_hold : ((not (same_colour p.mover side) || a.free) ≡ true)
       × ((code_behind arena side codes a == (slice_index codes number - 2)) ≡ true)
-  parts =
+  both_tests_hold =
       and_parts (not (same_colour p.mover side) || a.free)
       (code_behind arena side codes a == (slice_index codes number - 2)) p.first.passes
 
-  coded : code_behind arena side codes a ≡ slice_index codes number - 2
-  coded = eqb-true (code_behind arena side codes a) (slice_index codes number - 2) parts.1
+  code_is_two_less : code_behind arena side codes a ≡ slice_index codes number - 2
+  code_is_two_less = eqb-true (code_behind arena side codes a) (slice_index codes number - 2)
+      both_tests_hold.1
 
   free_for : p.mover ≡ side → a.free ≡ true
   free_for is =
       let mine : same_colour p.mover side ≡ true =
       ap (λ (c : Colour). same_colour c side) is ∙ same_side side in
-      rw mine at parts.0
+      rw mine at both_tests_hold.0
 
   mover_of : (c : Colour) → arena.node number ≡ Going c → p.mover ≡ c
   mover_of c n = let e : Going p.mover ≡ Going c = sym p.turn ∙ n in cc
@@ -82,11 +83,11 @@ module _ (arena : Arena Step ℕ Value) (side : Colour) (codes : List ℕ) (numb
       (free_for (mover_of side n)))
   played_fails (moves n b i t less each) =
       let same : code_behind arena side codes b ≡ code_behind arena side codes a =
-      (let c = coded in omega arith) in
+      (let c = code_is_two_less in omega arith) in
       subst (λ k. is_failure k ≡ true) same (each b i t).0
   played_fails (waits n b i f less each) =
       let same : code_behind arena side codes b ≡ code_behind arena side codes a =
-      (let c = coded in omega arith) in
+      (let c = code_is_two_less in omega arith) in
       subst (λ k. is_failure k ≡ true) same f
 
 module _ (laws : BestLaws) (rules : RuleLines) (value : Board → Value) (side : Colour)

@@ -120,8 +120,8 @@ module _ (text : List ℕ) (rules : RuleLines) (accepted : rules_of text ≡ Ok 
     pub says : exit_on_line text number ≡ Some fits
     pub gives : value_by rules q ≡ fits.value
 
-  numbered : (k : ℕ) → line_at rules.exits q ≡ Some k → Numbered k
-  numbered k e =
+  deciding_line_is_numbered : (k : ℕ) → line_at rules.exits q ≡ Some k → Numbered k
+  deciding_line_is_numbered k e =
       let fits = first_fits rules.exits q k e in
       let first = fits.1 in
       let many = as_many_lines text rules accepted in
@@ -138,8 +138,9 @@ module _ (text : List ℕ) (rules : RuleLines) (accepted : rules_of text ≡ Ok 
 
   -- the number that is told, where the line at a place fits
   number_told : (k : ℕ) (e : line_at rules.exits q ≡ Some k) →
-      number_at numbers rules.exits q ≡ Some (numbered k e).number
-  number_told k e = ap (option_and_then (slice_get numbers)) e ∙ (numbered k e).numbered
+      number_at numbers rules.exits q ≡ Some (deciding_line_is_numbered k e).number
+  number_told k e = ap (option_and_then (slice_get numbers)) e
+      ∙ (deciding_line_is_numbered k e).numbered
 
   -- the value that counts where the lines say nothing
   by_tables : value_by rules q ≡ Unknown → value ≡ first_value backs q
@@ -153,7 +154,7 @@ module _ (text : List ℕ) (rules : RuleLines) (accepted : rules_of text ≡ Ok 
       value ≡ value_by rules q → (value ≡ Unknown → back_at backs q ≡ None) →
       Told None (number_at numbers rules.exits q)
   by_line (Some k) e same silent =
-      let n = numbered k e in
+      let n = deciding_line_is_numbered k e in
       subst (Told None) (sym (number_told k e))
       (line k n.number n.fits e n.there n.says (same ∙ n.gives) silent)
   by_line None e same silent =
@@ -182,6 +183,6 @@ module _ (text : List ℕ) (rules : RuleLines) (accepted : rules_of text ≡ Ok 
       (λ unknown. let k : is_unknown (value_by rules q) ≡ true =
       ap is_unknown (sym same ∙ unknown) in absurd (let no : true ≡ false = sym k ∙ e in cc))
 
-  pub decides : Decides text rules backs q value (decider_of numbers rules backs q)
+  pub decider_decides : Decides text rules backs q value (decider_of numbers rules backs q)
   unfolding decider_of
-  decides = by_value (is_unknown (value_by rules q)) refl
+  decider_decides = by_value (is_unknown (value_by rules q)) refl

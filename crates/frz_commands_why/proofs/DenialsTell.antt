@@ -117,9 +117,9 @@ no_move_there ms check false turn mover e = absurd cc
 no_move_there (m ∷ ms) check true turn mover e = absurd cc
 no_move_there [] check true turn mover e = refl
 
-different : (side : Colour) → side ≡ other_of side → ⊥
-different White e = cc
-different Black e = cc
+sides_differ : (side : Colour) → side ≡ other_of side → ⊥
+sides_differ White e = cc
+sides_differ Black e = cc
 
 module _ (rules : RuleLines) (value : Board → Value) (side : Colour) (codes : List ℕ)
     (number : ℕ) (p : Board) (at : position_at rules.groups number ≡ Some p) where
@@ -353,10 +353,10 @@ module _ (rules : RuleLines) (value : Board → Value) (side : Colour) (codes : 
     abbrev moves : List Step
     moves = legal_moves_of p
 
-    passing : (test : Arm Step ℕ Value → Bool) →
+    filtered_arms_give_moves : (test : Arm Step ℕ Value → Bool) →
         map (λ a. a.mv) (filter test (graph.arms number))
         ≡ filter (λ m. test (arm_at rules value p m)) moves
-    passing test =
+    filtered_arms_give_moves test =
         ap (λ (l : Arms). map (λ a. a.mv) (filter test l)) (arms_there rules value number p at)
         ∙ moves_passing rules value p test moves
 
@@ -383,19 +383,19 @@ module _ (rules : RuleLines) (value : Board → Value) (side : Colour) (codes : 
         let turn = mover_is rules value side codes number p at side going in
         subst (λ (l : Arms). AreDenials rules value side codes p
         (map (own_denial graph side codes) l)) (sym all) (record {
-          own = λ _. own_moves xs ∙ passing (λ a. a.free) ∙ free_moves turn;
+          own = λ _. own_moves xs ∙ filtered_arms_give_moves (λ a. a.free) ∙ free_moves turn;
           replies = own_rows p xs within_arms;
           unanswered = λ mine. own_unanswered p xs within_arms;
-          other = λ theirs. absurd (different side (sym turn ∙ theirs));
+          other = λ theirs. absurd (sides_differ side (sym turn ∙ theirs));
         })
     denials_are denials w (other agrees going) none =
         let turn = mover_is rules value side codes number p at (other_of side) going in
         record {
-          own = λ mine. absurd (different side (sym mine ∙ turn));
+          own = λ mine. absurd (sides_differ side (sym mine ∙ turn));
           replies = other_rows p (filter (is_denied side codes) (graph.arms number));
-          unanswered = λ mine. absurd (different side (sym mine ∙ turn));
+          unanswered = λ mine. absurd (sides_differ side (sym mine ∙ turn));
           other = λ _. other_moves (filter (is_denied side codes) (graph.arms number))
-              ∙ passing (is_denied side codes);
+              ∙ filtered_arms_give_moves (is_denied side codes);
         }
     denials_are denials w (stalemate agrees mover over) none =
         let nothing = no_move_there moves (is_in_check p p.turn) (is_member rules.groups p) p.turn

@@ -16,11 +16,11 @@ use Rattle.frz_reasons.specs.declared.denial.Denial.{Denial}
 use Rattle.frz_reasons.specs.Denials.{DeniesWin, first_wrong, other_denials, own_denials, wrong, own, other, stalemate}
 use Rattle.frz_reasons.specs.LocalEntries.{Agrees, given_at, wrong_at}
 
-whose : (side mover : Colour) → (mover ≡ side) ⊎ (mover ≡ other_of side)
-whose White White = inl refl
-whose White Black = inr refl
-whose Black White = inr refl
-whose Black Black = inl refl
+mover_is_either_side : (side mover : Colour) → (mover ≡ side) ⊎ (mover ≡ other_of side)
+mover_is_either_side White White = inl refl
+mover_is_either_side White Black = inr refl
+mover_is_either_side Black White = inr refl
+mover_is_either_side Black Black = inl refl
 
 not_other : (side : Colour) → side ≡ other_of side → ⊥
 not_other White e = cc
@@ -51,7 +51,7 @@ module _ (arena : Arena Step ℕ Value) (side : Colour) (codes : List ℕ) (numb
         (agrees ∙ ap given_by n) hold)
     by_node agrees (Stalemate mover) n =
         record { denials = []; wrong_one = None; denied = stalemate agrees mover n }
-    by_node agrees (Going mover) n = by_mover (whose side mover)
+    by_node agrees (Going mover) n = by_mover (mover_is_either_side side mover)
       where
         by_mover : (mover ≡ side) ⊎ (mover ≡ other_of side) → Denied
         by_mover (inl e) = record {

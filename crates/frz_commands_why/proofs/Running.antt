@@ -42,7 +42,7 @@ use Rattle.frz_prelude.specs.declared.refused.Refused.TheVariants as refusals
 use Rattle.frz_prelude.proofs.Lemmas.{found_where, refusal_said, table_own}
 use Rattle.frz_atlas_prelude.specs.Ending.{EndsAt}
 use Rattle.frz_atlas_prelude.specs.Names.{has_twice}
-use Rattle.frz_atlas_prelude.proofs.Lemmas.{AnswersAt, Holds, MayEndAt, back_said, ended_at, holds}
+use Rattle.frz_atlas_prelude.proofs.Lemmas.{AnswersAt, Holds, MayEndAt, apart_names_hold, back_said, ended_at}
 use Rattle.frz_exit_lines.specs.Numbers.{exit_numbers_of}
 use Rattle.frz_commands_why.specs.Asking.{asking_at}
 use Rattle.frz_commands_why.specs.Costs.{steps_by, why_costs}
@@ -148,12 +148,12 @@ module _ (there : WayThere) (table : List ℕ) (behind : List (List ℕ))
   abbrev mid : World
   mid = world new input out now
 
-  spends : (held : Option (List ℕ)) (helds : List (Option (List ℕ)))
+  spent_within_costs : (held : Option (List ℕ)) (helds : List (Option (List ℕ)))
       (h : Holds old.files table behind held helds) → WithinOwn held helds old new
       → now ≤ before + steps_by (opened_own held) (unwrap_or held []) side p
       → WithinCosts (why_costs side p (h.all.files table) (map h.all.files behind)) (spent start)
       (spent mid)
-  spends held helds h within steps =
+  spent_within_costs held helds h within steps =
       subst (λ (x : Option (List ℕ)). WithinCosts (why_costs side p x (map h.all.files behind))
       (spent start) (spent mid)) (sym h.here)
       (subst (λ (l : List (Option (List ℕ))). WithinCosts (why_costs side p held l) (spent start)
@@ -161,15 +161,15 @@ module _ (there : WayThere) (table : List ℕ) (behind : List (List ℕ))
       (record { steps = steps; calls = within.calls; asked = within.asked }))
 
   -- some answer over what the names hold
-  begun : (held : Option (List ℕ)) (helds : List (Option (List ℕ)))
+  some_answer_begun : (held : Option (List ℕ)) (helds : List (Option (List ℕ)))
       (h : Holds old.files table behind held helds) → WithinOwn held helds old new
       → now ≤ before + steps_by (opened_own held) (unwrap_or held []) side p
       → (files : Files) (left : List ℕ) → Agrees start files left
       → Begun job files left start mid
-  begun held helds h within steps files left agrees = record {
+  some_answer_begun held helds h within steps files left agrees = record {
     found = found_where job h.all.files files left start (λ e. cc) h.all.agrees agrees;
     some = some_at there side p h.all.files table behind;
-    costs = spends held helds h within steps;
+    costs = spent_within_costs held helds h within steps;
   }
 
   -- the tables were loaded
@@ -180,10 +180,11 @@ module _ (there : WayThere) (table : List ℕ) (behind : List (List ℕ))
     contents = contents_of given.table
 
     abbrev h : Holds old.files table behind (Some l.bytes) (all_held l.tables)
-    h = holds old.files table behind apart (Some l.bytes) (all_held l.tables) l.may l.may_all
+    h = apart_names_hold old.files table behind apart (Some l.bytes) (all_held l.tables) l.may
+        l.may_all
 
-    leaning : leans_as given.table.kind ≡ leans l.bytes
-    leaning = ap (λ (k : Link). k.leans) l.keeps
+    leans_as_its_bytes : leans_as given.table.kind ≡ leans l.bytes
+    leans_as_its_bytes = ap (λ (k : Link). k.leans) l.keeps
 
     same_backs : map loaded_back backs ≡ backs_in l.tables
     same_backs = sym (loaded_backs backs) ∙ kept_backs (map link_loaded backs) l.tables l.all_keep
@@ -214,7 +215,7 @@ module _ (there : WayThere) (table : List ℕ) (behind : List (List ℕ))
         (subst (λ (t : Bool). EndsWhy contents.rules
         (value_over t contents.rules (map loaded_back backs)) side (codes_loaded given side)
         (decider_of (exit_numbers_of contents.text) contents.rules
-        (leaning_on t (map loaded_back backs))) number end out after) leaning ends))
+        (leaning_on t (map loaded_back backs))) number end out after) leans_as_its_bytes ends))
 
     same_steps : now ≤ before + steps_by (opened_own (Some l.bytes)) l.bytes side p
     same_steps =
@@ -241,7 +242,7 @@ module _ (there : WayThere) (table : List ℕ) (behind : List (List ℕ))
         subst (λ (o : SinkTold). Ran job end start (world new input o now)) (sym early.1)
         (subst (λ (e : End). Ran job e start mid) (sym early.0)
         (stopped job stops.NoMemory start mid (quiet_both old new input out before now quiet later)
-        refl (begun (Some l.bytes) (all_held l.tables) h l.within same_steps)))
+        refl (some_answer_begun (Some l.bytes) (all_held l.tables) h l.within same_steps)))
     by_member true inside end after fine (inr ends) =
         let told = by_files (Num contents.rules.groups p) end after ends in
         said job (status_by told.wrong)
@@ -261,7 +262,7 @@ module _ (there : WayThere) (table : List ℕ) (behind : List (List ℕ))
               (why_text side (code_at contents l.bytes side p) told.text told.wrong) h.all.files
               ≡ outside_answer h.all.files)) (sym inside)
               (record { text = told.text; wrong = told.wrong; told = told.told; is = refl }));
-          costs = spends (Some l.bytes) (all_held l.tables) h l.within same_steps;
+          costs = spent_within_costs (Some l.bytes) (all_held l.tables) h l.within same_steps;
         })
     by_member false inside end after fine refused =
         said job (status_of refusals.Outside) (refusal_line refusals.Outside) end start mid after
@@ -274,7 +275,7 @@ module _ (there : WayThere) (table : List ℕ) (behind : List (List ℕ))
               (IsWhyAnswer contents l.bytes l.tables side p h.all.files
               (outside_answer h.all.files))
               (outside_answer h.all.files ≡ outside_answer h.all.files)) (sym inside) refl);
-          costs = spends (Some l.bytes) (all_held l.tables) h l.within same_steps;
+          costs = spent_within_costs (Some l.bytes) (all_held l.tables) h l.within same_steps;
         })
 
     pub told_so : (end : End) (after : SinkTold) → StoreFine old new
@@ -286,18 +287,19 @@ module _ (there : WayThere) (table : List ℕ) (behind : List (List ℕ))
   module _ (fault : AtlasFault) (r : RefusesTables table behind old new fault)
       (steps : now ≤ before) where
     abbrev k : Holds old.files table behind r.held r.helds
-    k = holds old.files table behind apart r.held r.helds r.may r.may_all
+    k = apart_names_hold old.files table behind apart r.held r.helds r.may r.may_all
 
     no_steps : now ≤ before + steps_by (opened_own r.held) (unwrap_or r.held []) side p
     no_steps = omega arith
 
-    costs : WithinCosts (why_costs side p (k.all.files table) (map k.all.files behind))
+    refused_within_costs : WithinCosts
+        (why_costs side p (k.all.files table) (map k.all.files behind))
         (spent start) (spent mid)
-    costs = spends r.held r.helds k r.within no_steps
+    refused_within_costs = spent_within_costs r.held r.helds k r.within no_steps
 
-    some : (files : Files) (left : List ℕ) → Agrees start files left
+    refusal_begun : (files : Files) (left : List ℕ) → Agrees start files left
         → Begun job files left start mid
-    some = begun r.held r.helds k r.within no_steps
+    refusal_begun = some_answer_begun r.held r.helds k r.within no_steps
 
     may_end : (f : AtlasFault) → IsUnopened r.held r.helds f
         → HasAtlasCause {T = ℕ} (Err f) old new → MayEndAt job f start mid
@@ -317,17 +319,17 @@ module _ (there : WayThere) (table : List ℕ) (behind : List (List ℕ))
       found = found_where job k.all.files files left start (λ e. cc) k.all.agrees agrees;
       answer = answer_at table behind side p k.all.files r.held r.helds k.here k.others _ (Err f)
           (opened_all r.helds) refused refl refl;
-      costs = costs;
+      costs = refused_within_costs;
     }
     answers_at (BackAt place (Refused f)) refused files left agrees = record {
       found = found_where job k.all.files files left start (λ e. cc) k.all.agrees agrees;
       answer = answer_at table behind side p k.all.files r.held r.helds k.here k.others _
           (Ok refused.0.0) (Err (place, f)) refused.0.1 refused.1 refl;
-      costs = costs;
+      costs = refused_within_costs;
     }
     answers_at (BackAt place (Wrong wrong)) refused files left agrees = absurd refused
-    answers_at Failed refused files left agrees = some files left agrees
-    answers_at NoMemory refused files left agrees = some files left agrees
+    answers_at Failed refused files left agrees = refusal_begun files left agrees
+    answers_at NoMemory refused files left agrees = refusal_begun files left agrees
 
     pub refused_so : (end : End) (after : SinkTold)
         → HasAtlasCause {T = ℕ} (Err fault) old new → EndsAt fault end out after

@@ -56,7 +56,7 @@ use Rattle.frz_commands_why.specs.Telling.{ToldAt, fails, holds, neither, why_te
 use Rattle.frz_commands_why.specs.Texts.{end_text, status_by, wrong_in}
 use Rattle.frz_commands_why.specs.WhyOf.{IsWhyAnswer, IsWhyAt, IsWhyBehind, IsWhyBy, backs_behind, code_at, decider_behind, value_behind}
 use Rattle.frz_commands_why.proofs.BestWay.{BestLaws, best_way}
-use Rattle.frz_commands_why.proofs.Deciders.{decides}
+use Rattle.frz_commands_why.proofs.Deciders.{decider_decides}
 use Rattle.frz_commands_why.proofs.DenialsTell.{denials_are, none_wrong}
 
 -- the laws of failing ways on which this rests
@@ -143,8 +143,9 @@ module _ (laws : WayLaws) (table : List ℕ) (behind : List (List ℕ)) (side : 
     abbrev code : ℕ
     code = code_at open_all.contents open_all.bytes side p
 
-    at : position_at rules.groups number ≡ Some p
-    at = position_of rules.groups number p (record { member = inside; number = refl })
+    number_gives_position : position_at rules.groups number ≡ Some p
+    number_gives_position = position_of rules.groups number p
+        (record { member = inside; number = refl })
 
     where_exact : KeepsTables value open_all.contents open_all.bytes → (q : Board)
         → Member rules.groups q
@@ -196,7 +197,7 @@ module _ (laws : WayLaws) (table : List ℕ) (behind : List (List ℕ)) (side : 
         subst (λ (w : Value). Decides open_all.contents.text rules
         (backs_behind open_all.bytes open_all.tables) q w (decider q))
         (as_atlas (leans open_all.bytes) rules _ q ∙ sym is)
-        (decides open_all.contents.text rules accepted
+        (decider_decides open_all.contents.text rules accepted
         (backs_behind open_all.bytes open_all.tables) q)
 
     decided_at : (reason : Reason) (q : Board) → EndsAt rules value side q reason → (n : ℕ)
@@ -215,7 +216,7 @@ module _ (laws : WayLaws) (table : List ℕ) (behind : List (List ℕ)) (side : 
         → TellsNone open_all.contents open_all.bytes open_all.tables side p a.text
     none_told failing arms reason way right told =
         let plies = failure_plies code failing in
-        let ends = laws.end rules value side codes number arms reason p at way in
+        let ends = laws.end rules value side codes number arms reason p number_gives_position way in
         record {
           plies = (code - 3) / 2;
           none = plies;
@@ -225,7 +226,7 @@ module _ (laws : WayLaws) (table : List ℕ) (behind : List (List ℕ)) (side : 
           right = right;
           many = laws.length_is rules value side codes number ((code - 3) / 2) arms reason plies way
               right;
-          game = laws.moves rules value side codes number arms reason p at way;
+          game = laws.moves rules value side codes number arms reason p number_gives_position way;
           ends = ends;
           spoiled = laws.spoiled rules value side codes number arms reason failing way;
           decided = decided_at reason (position_behind p arms) ends;
@@ -257,12 +258,14 @@ module _ (laws : WayLaws) (table : List ℕ) (behind : List (List ℕ)) (side : 
         means_told (denials_text denials) e (hold_told (record {
           hold = hold;
           denials = denials;
-          rows = denials_are rules value side codes number p at denials None denied refl;
+          rows = denials_are rules value side codes number p number_gives_position denials None
+              denied refl;
           told = text_is (denials_text denials) e;
         }))
     by_wrong hold denials (Some w) denied e =
         means_wrong (denials_text denials) w (holds hold denials (Some w) denied) e
-        (λ kept. none_wrong rules value side codes number p at (kept side) denials w denied)
+        (λ kept. none_wrong rules value side codes number p number_gives_position (kept side)
+        denials w denied)
 
     by_told : (text : List ℕ) (w : Option WrongEntry)
         → ToldAt rules value side codes decider number text w

@@ -21,16 +21,17 @@ found_by before table None entry h = absurd (cc)
 found_by before table (Some q) entry h = (h.0, q, h.2)
 
 -- it is one of those before, and the number is one of its set
-pub found : (before : List BackTable) (table : BackTable) (finish : Result Finish PlayFault)
+pub entry_found_before : (before : List BackTable) (table : BackTable)
+    (finish : Result Finish PlayFault)
     (entry : Entry) → GoesOnward table before finish (Some entry)
     → (next : BackTable) × (q : Board) × IsEntry before q entry next
-found before table finish entry onwards =
+entry_found_before before table finish entry onwards =
     found_by before table (left_to table.table.rules.groups finish) entry onwards
 
 pub entry_within : (before : List BackTable) (table : BackTable) (finish : Result Finish PlayFault)
     (entry : Entry) → GoesOnward table before finish (Some entry) → entry.place < length before
 entry_within before table finish entry onwards =
-    let f = found before table finish entry onwards in
+    let f = entry_found_before before table finish entry onwards in
     slice_get_within before entry.place f.0 f.2.there
 
 pub number_within : (before : List BackTable) (table : BackTable)
@@ -38,7 +39,7 @@ pub number_within : (before : List BackTable) (table : BackTable)
     → GoesOnward table before finish (Some entry) → (next : BackTable)
     → slice_get before entry.place ≡ Some next → entry.number < size_of next.table.rules.groups
 number_within before table finish entry onwards next there =
-    let f = found before table finish entry onwards in
+    let f = entry_found_before before table finish entry onwards in
     let same : f.0 ≡ next = (let a = f.2.there in cc) in
     let has = f.2.numbered in
     let below = Num_below f.0.table.rules.groups f.1 has.member in

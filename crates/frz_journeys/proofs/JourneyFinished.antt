@@ -96,9 +96,9 @@ finishes_alone side stage place (Err (plays.Line faults.Output)) rest unread at 
 finishes_alone side stage place (Err (plays.Line faults.NoMemory)) rest unread at settled h =
     absurd settled
 
-longer : (rest more : List ℕ) → (rest ≡ [] → ⊥) → rest ++ more ≡ [] → ⊥
-longer [] more some e = some refl
-longer (b ∷ rest) more some e = cc
+longer_not_empty : (rest more : List ℕ) → (rest ≡ [] → ⊥) → rest ++ more ≡ [] → ⊥
+longer_not_empty [] more some e = some refl
+longer_not_empty (b ∷ rest) more some e = cc
 
 -- the input failed at a stage that others may follow
 pub input_short : (side : Colour) (stage : Stage) (stages : List Stage) (rest more : List ℕ)
@@ -106,11 +106,12 @@ pub input_short : (side : Colour) (stage : Stage) (stages : List Stage) (rest mo
     → (end : WayEnd) × (told side stage.end ≡ Ok end))
     → ways.IsUnfinished (told side stage.end) rest → StopsShort side (stage ∷ stages) (rest ++ more)
 input_short side stage [] rest more exit h = λ q end arrives.
-    longer rest more
+    longer_not_empty rest more
     (subst (λ (r : Result WayEnd PlayFault). ways.IsUnfinished r rest) (sym arrives.1) h)
 input_short side stage (next ∷ others) rest more exit h = λ q end arrives.
     let at = exit next others refl in
-    longer rest more (subst (λ (r : Result WayEnd PlayFault). ways.IsUnfinished r rest) at.1 h)
+    longer_not_empty rest more
+    (subst (λ (r : Result WayEnd PlayFault). ways.IsUnfinished r rest) at.1 h)
 
 -- one stage before others
 pub finishes_later : (side : Colour) (stage next : Stage) (stages : List Stage) (place : Place)

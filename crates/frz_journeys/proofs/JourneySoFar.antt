@@ -144,12 +144,13 @@ module _ (opponent : Opponent) (side : Colour) (before : List BackTable) (table 
         (onward tables own p stage.plies stage.end)
 
     -- where no table goes on, the stage is the whole journey
-    alone : (result : Result Finish PlayFault) → IsPlayedSo result → IsSettled (ended result)
+    stage_is_whole_journey : (result : Result Finish PlayFault) → IsPlayedSo result
+        → IsSettled (ended result)
         → (left : List ℕ) → MayFollow new left → (stage : Stage) (stages : List Stage)
         (last mid : Input) → IsOwnStage (record { left = bytes ++ left; more = old.more }) stage mid
         → IsFollowed stage mid stages last → onward tables own p stage.plies stage.end ≡ None
         → IsTold result left (stage ∷ stages) last
-    alone result played settled left may stage stages last mid is follows none =
+    stage_is_whole_journey result played settled left may stage stages last mid is follows none =
         let h = stage_played result played left may stage mid is in
         let w = h.0 in
         let way = way_text opponent side stage.code stage.plies stage.end in
@@ -174,7 +175,7 @@ module _ (opponent : Opponent) (side : Colour) (before : List BackTable) (table 
         )
 
     -- where a fault cut the stage short, whatever follows it
-    cut : (result : Result Finish PlayFault) → IsPlayedSo result → (left : List ℕ)
+    stage_cut_short : (result : Result Finish PlayFault) → IsPlayedSo result → (left : List ℕ)
         → MayFollow new left → (stage : Stage) (stages : List Stage) (last mid : Input)
         → IsOwnStage (record { left = bytes ++ left; more = old.more }) stage mid
         → IsFollowed stage mid stages last
@@ -182,7 +183,7 @@ module _ (opponent : Opponent) (side : Colour) (before : List BackTable) (table 
         → Finishes side (stage ∷ stages) place (ended result)
         (rest ++ journey_text opponent side stages) later)
         → IsTold result left (stage ∷ stages) last
-    cut result played left may stage stages last mid is follows finish =
+    stage_cut_short result played left may stage stages last mid is follows finish =
         let h = stage_played result played left may stage mid is in
         let w = h.0 in
         let way = way_text opponent side stage.code stage.plies stage.end in
@@ -202,16 +203,17 @@ module _ (opponent : Opponent) (side : Colour) (before : List BackTable) (table 
         )
 
     -- a fault or an end within the set
-    within : (result : Result Finish PlayFault) (answer : Result WayEnd PlayFault)
+    stage_ended_within_set : (result : Result Finish PlayFault) (answer : Result WayEnd PlayFault)
         → IsPlayedSo result → IsSettled (ended result) → IsNoExit answer
         → ((rest unread : List ℕ) (due : Result WayEnd PlayFault)
         → ways.Finishes (ended result) due rest unread → answer ≡ due) → (left : List ℕ)
         → MayFollow new left → (stage : Stage) (stages : List Stage) (last mid : Input)
         → IsOwnStage (record { left = bytes ++ left; more = old.more }) stage mid
         → IsFollowed stage mid stages last → IsTold result left (stage ∷ stages) last
-    within result answer played settled other is_due left may stage stages last mid is follows =
+    stage_ended_within_set result answer played settled other is_due left may stage stages last mid
+        is follows =
         let w = (stage_played result played left may stage mid is).0 in
-        alone result played settled left may stage stages last mid is follows
+        stage_is_whole_journey result played settled left may stage stages last mid is follows
         (no_table tables own p stage.plies side stage.end answer
         (is_due w.rest w.unread (told side stage.end) w.finishes) other)
 
@@ -239,7 +241,7 @@ module _ (opponent : Opponent) (side : Colour) (before : List BackTable) (table 
           → IsOwnStage (record { left = bytes ++ left; more = old.more }) stage mid
           → IsFollowed stage mid stages last → IsTold result left (stage ∷ stages) last
       by_finish (Ok (Here end)) played settled kind none left may stage stages last mid is follows =
-          within (Ok (Here end)) (Ok end) played tt (end_here end opponent kind)
+          stage_ended_within_set (Ok (Here end)) (Ok end) played tt (end_here end opponent kind)
           (λ rest unread due h. h.0) left may stage stages last mid is follows
       by_finish (Ok (Left number move v)) played settled kind none left may stage stages last mid is
           follows =
@@ -248,27 +250,30 @@ module _ (opponent : Opponent) (side : Colour) (before : List BackTable) (table 
           subst (λ (o : Option Board). MatchOption o (◌≡◌ {A = Option Entry} None None)
           (λ q. Finds before q (next_of tables own q) None))
           (led_to number move v played left may stage mid is) none in
-          alone (Ok (Left number move v)) played tt left may stage stages last mid is follows
+          stage_is_whole_journey (Ok (Left number move v)) played tt left may stage stages last mid
+          is follows
           (ap (onward tables own p stage.plies) h.2.0 ∙ found)
       by_finish (Err plays.Input) played settled kind none left may stage stages last mid is follows =
-          cut (Err plays.Input) played left may stage stages last mid is follows
+          stage_cut_short (Err plays.Input) played left may stage stages last mid is follows
           (λ rest unread later h. input_short side stage stages rest
           (journey_text opponent side stages)
           (λ next others e. exit_before tables own p stage.plies side stage.end mid stages last _
           follows next others e) h)
       by_finish (Err (plays.Limit limit)) played settled kind none left may stage stages last mid is
           follows =
-          within (Err (plays.Limit limit)) (Err (plays.Limit limit)) played tt tt
+          stage_ended_within_set (Err (plays.Limit limit)) (Err (plays.Limit limit)) played tt tt
           (λ rest unread due h. h.0) left may stage stages last mid is follows
       by_finish (Err (plays.Line faults.Outside)) played settled kind none left may stage stages last mid
           is follows = absurd settled
       by_finish (Err (plays.Line faults.NoBound)) played settled kind none left may stage stages last mid
           is follows =
-          within (Err (plays.Line faults.NoBound)) (Err (plays.Line faults.NoBound)) played tt tt
+          stage_ended_within_set (Err (plays.Line faults.NoBound)) (Err (plays.Line faults.NoBound))
+          played tt tt
           (λ rest unread due h. h.0) left may stage stages last mid is follows
       by_finish (Err (plays.Line (faults.Wrong w))) played settled kind none left may stage stages last
           mid is follows =
-          within (Err (plays.Line (faults.Wrong w))) (Err (plays.Line (faults.Wrong w))) played tt tt
+          stage_ended_within_set (Err (plays.Line (faults.Wrong w)))
+          (Err (plays.Line (faults.Wrong w))) played tt tt
           (λ rest unread due h. h.0) left may stage stages last mid is follows
       by_finish (Err (plays.Line faults.Store)) played settled kind none left may stage stages last mid
           is follows = absurd settled
@@ -276,7 +281,8 @@ module _ (opponent : Opponent) (side : Colour) (before : List BackTable) (table 
           mid is follows = absurd settled
       by_finish (Err (plays.Line faults.Output)) played settled kind none left may stage stages last mid
           is follows =
-          cut (Err (plays.Line faults.Output)) played left may stage stages last mid is follows
+          stage_cut_short (Err (plays.Line faults.Output)) played left may stage stages last mid is
+          follows
           (λ rest unread later h. tt)
 
       -- no table goes on behind the way

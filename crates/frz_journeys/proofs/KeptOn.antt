@@ -166,12 +166,12 @@ weaker_by side before table stage stages None later h =
     won_is_held side table (after_plies stage.start stage.plies) stage.end h
 weaker_by side before table stage stages (Some n) later h = later n h
 
-weaker : (side : Colour) (before : List Link) (table : Link) (stages : List Stage)
+won_at_last_is_held : (side : Colour) (before : List Link) (table : Link) (stages : List Stage)
     → AtLast (IsWonAt side) before table stages → AtLast (IsHeldAt side) before table stages
-weaker side before table [] h = absurd h
-weaker side before table (stage ∷ stages) h =
+won_at_last_is_held side before table [] h = absurd h
+won_at_last_is_held side before table (stage ∷ stages) h =
     weaker_by side before table stage stages (onward before table stage.start stage.plies stage.end)
-    (λ n k. weaker side (take n.0 before) n.1 stages k) h
+    (λ n k. won_at_last_is_held side (take n.0 before) n.1 stages k) h
 
 sets_before : (n : ℕ) (before : List Link) → HaveOwnSets before → HaveOwnSets (take n before)
 sets_before n before own = All-take (λ (t : Link). t.back.groups ≡ t.rules.groups) n before own
@@ -241,7 +241,7 @@ module _ (exits : ExitsTell) (opponent : Opponent) (side : Colour) where
           (λ next e h.
           let on = is_onward before table p stage.plies stage.end next e in
           elim (next_held side before table p stage.plies own stage.end next held valued on) [
-            | inl won ↦ weaker side (take next.0 before) next.1 stages
+            | inl won ↦ won_at_last_is_held side (take next.0 before) next.1 stages
                 (won_on (take next.0 before) next.1 (Behind next.0) (after_plies p stage.plies) j.0
                 stages left won.0 (sets_before next.0 before own) on.at.holds won.1 h)
             | inr hold ↦ held_on (take next.0 before) next.1 (Behind next.0)

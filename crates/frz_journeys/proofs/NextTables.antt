@@ -69,12 +69,12 @@ behind_lines (WhiteWinsIn n) found next e = absurd (cc)
 behind_lines (BlackWinsIn n) found next e = absurd (cc)
 
 -- only a table that leans has others to go on
-pub leant : (leans : Bool) (before : List Link) (q : Board) (next : ℕ × Link)
+pub only_leaning_goes_on : (leans : Bool) (before : List Link) (q : Board) (next : ℕ × Link)
     → first_from 0 (leant_on leans before) q ≡ Some next
     → (leans ≡ true) × (first_from 0 before q ≡ Some next)
 unfolding first_from
-leant true before q next e = (refl, e)
-leant false before q next e = absurd (cc)
+only_leaning_goes_on true before q next e = (refl, e)
+only_leaning_goes_on false before q next e = absurd (cc)
 
 -- what the table is that goes on from a position
 pub record GoesOnAt (before : List Link) (table : Link) (q : Board) (next : ℕ × Link) : Type 0 where
@@ -90,7 +90,7 @@ pub goes_on_at : (before : List Link) (table : Link) (q : Board) (next : ℕ × 
 goes_on_at before table q next e =
     let b = behind_lines (value_by table.rules q) (first_from 0 (leant_on table.leans before) q) next
     e in
-    let l = leant table.leans before q next b.1 in
+    let l = only_leaning_goes_on table.leans before q next b.1 in
     let a = first_among 0 before q next l.1 in
     let same : next.0 ≡ a.index = (let k = a.at in omega (arith, k)) in
     let there : slice_get before next.0 ≡ Some next.1 =

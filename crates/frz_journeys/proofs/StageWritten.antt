@@ -37,11 +37,13 @@ by_output P (Ok finish) is h = absurd is
 by_output P (Err fault) is h = subst (λ (f : PlayFault). P (Err f)) (sym is) h
 
 -- what was played of a way of which nothing was written or taken
-unplayed : (arena : Arena Step ℕ Value) (opponent : Opponent) (side : Colour) (cs : List ℕ)
+nothing_played_nothing_written : (arena : Arena Step ℕ Value) (opponent : Opponent) (side : Colour)
+    (cs : List ℕ)
     (start : ℕ) (reader : Reader) (steps : ℕ)
     → PlaysLoaded arena opponent side cs start reader reader [] []
     (Err (plays.Line faults.Output)) steps steps
-unplayed arena opponent side cs start reader steps = λ left may plies end last w.
+nothing_played_nothing_written arena opponent side cs start reader steps = λ left may plies end last
+    w.
     let front = way_front arena opponent side (λ k. cs) 0 (record { left = left; more = reader.more })
     last (0, start) plies end w in (
       record {
@@ -81,5 +83,5 @@ line_failed arena opponent side cs start place reader result source out taken st
       subst (λ (l : List ℕ). FailedWithin l out taken) (sym (append-nil (place_line place))) failed,
       took_none source source refl,
       λ e. (refl, e),
-      unplayed arena opponent side cs start reader steps,
+      nothing_played_nothing_written arena opponent side cs start reader steps,
     )

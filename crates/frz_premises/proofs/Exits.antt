@@ -22,9 +22,9 @@ use Rattle.frz_premises.proofs.InLists.{in_filter, in_flat_map, in_map, in_range
 abbrev is_out : List GroupLine → Board → Bool
 is_out groups q = not (is_member groups q)
 
-pub listed : (rules : RuleLines) (value : Board → Value) (q : Board) →
+pub exits_are_listed : (rules : RuleLines) (value : Board → Value) (q : Board) →
     IsExit (game_of rules value) q → Contains (outside_of rules.groups) q
-listed rules value q x =
+exits_are_listed rules value q x =
     let groups = rules.groups in
     let p = x.from in
     let n : ℕ = Num groups p in
@@ -48,9 +48,9 @@ unlisted_on groups i q None e h = absurd (none_in_empty q h)
 unlisted_on groups i q (Some p) e h =
     (p, of_member groups p (position_tells groups i p e).member, h)
 
-pub unlisted : (rules : RuleLines) (value : Board → Value) (q : Board) →
+pub listed_are_exits : (rules : RuleLines) (value : Board → Value) (q : Board) →
     Contains (outside_of rules.groups) q → IsExit (game_of rules value) q
-unlisted rules value q h =
+listed_are_exits rules value q h =
     let groups = rules.groups in
     let number = of_flat_map (outside_at groups) (range_with_len 0 (size_of groups)) q h in
     let from = unlisted_on groups number.0 q (position_at groups number.0) refl number.2 in

@@ -9,14 +9,14 @@ use Rattle.frz_exits.specs.Fitting.{line_at}
 use Rattle.frz_exits.proofs.Lemmas.{IsFirst, first_fits, none_fits}
 use Rattle.frz_premises.specs.Deciding.{is_place, decides}
 
-placed : (i : ℕ) (o : Option ℕ) → is_place i o ≡ true → o ≡ Some i
-placed i None h = absurd (cc)
-placed i (Some k) h = ap Some (eqb-true k i h)
+tested_place_is_it : (i : ℕ) (o : Option ℕ) → is_place i o ≡ true → o ≡ Some i
+tested_place_is_it i None h = absurd (cc)
+tested_place_is_it i (Some k) h = ap Some (eqb-true k i h)
 
 -- a line that decides a position is the first that fits it
 pub decides_first : (lines : List ExitLine) (q : Board) (i : ℕ) → decides lines i q ≡ true →
     (line : ExitLine) × IsFirst lines q i line
-decides_first lines q i h = first_fits lines q i (placed i (line_at lines q) h)
+decides_first lines q i h = first_fits lines q i (tested_place_is_it i (line_at lines q) h)
 
 -- there is none, and the value is unknown, or some line decides it
 pub first_cases : (lines : List ExitLine) (q : Board) → (first_value lines q ≡ Unknown)

@@ -24,7 +24,7 @@ use Rattle.frz_premises.specs.Deciding.{decided_by, decides}
 use Rattle.frz_premises.specs.Needs.{IsTellable, NeedsBelief}
 use Rattle.frz_premises.specs.Saying.{none_says, says_as_much, says_at_each}
 use Rattle.frz_premises.specs.WaysOut.{outside_of}
-use Rattle.frz_premises.proofs.Exits.{unlisted}
+use Rattle.frz_premises.proofs.Exits.{listed_are_exits}
 use Rattle.frz_premises.proofs.InLists.{of_filter}
 
 found_in : {X : Type 0} (test : X → Bool) (xs : List X) (x : X) → find test xs ≡ Some x →
@@ -66,16 +66,16 @@ told_need groups links line (first ∷ qs) q h =
       ]
     ]
 
-pub needs : (rules : RuleLines) (value : Board → Value) (links : List Link) (i : ℕ)
+pub believed_needs_belief : (rules : RuleLines) (value : Board → Value) (links : List Link) (i : ℕ)
     (line : ExitLine) (q : Board) → basis_of rules links i line ≡ Believed q →
     NeedsBelief rules value links i line q
-needs rules value links i line q h =
+believed_needs_belief rules value links i line q h =
     let exits = outside_of rules.groups in
     let told = told_need rules.groups links line (decided_by rules.exits i exits) q h in
     let found = found_in (none_says links line.value) (decided_by rules.exits i exits) q told.0 in
     let kept = of_filter (decides rules.exits i) exits q found.0 in
     record {
-      is_exit = unlisted rules value q kept.0;
+      is_exit = listed_are_exits rules value q kept.0;
       decided = kept.1;
       known = told.1;
       asked = told.2;
@@ -133,7 +133,8 @@ by_basis rules links i line (ByTable k) e =
     told_table rules.groups links line (decided_by rules.exits i (outside_of rules.groups)) k e
 by_basis rules links i line ByTables e = tt
 by_basis rules links i line (Believed q) e =
-    exit_valid rules (λ q. Unknown) q (needs rules (λ q. Unknown) links i line q e).is_exit
+    exit_valid rules (λ q. Unknown) q
+    (believed_needs_belief rules (λ q. Unknown) links i line q e).is_exit
 
 pub all_tellable : (rules : RuleLines) (links : List Link) (tables : ℕ) → length links ≡ tables →
     All (IsTellable tables) (bases_of rules links)

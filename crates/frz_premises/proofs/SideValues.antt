@@ -38,7 +38,7 @@ use Rattle.frz_premises.specs.declared.sides.ExitValues.{ExitValues}
 use Rattle.frz_premises.specs.declared.sides.Strength.TheVariants.{Undecided, Outcomes, Exact}
 use Rattle.frz_premises.specs.Sides.{bad_for, exits_tell, is_bad, renounces, strength_by, strength_of, value_behind, values_after, values_of, values_tell}
 use Rattle.frz_premises.specs.WaysOut.{outside_at, outside_below, outside_of, outside_on}
-use Rattle.frz_premises.proofs.Exits.{listed}
+use Rattle.frz_premises.proofs.Exits.{exits_are_listed}
 use Rattle.frz_premises.proofs.InLists.{in_map}
 use Rattle.frz_premises.proofs.Numbering.{outside_more}
 
@@ -66,7 +66,7 @@ module _ (rules : RuleLines) (value : Board → Value) where
   -- the value of an exit is one of those listed
   its_value : (q : Board) → IsExit (game_of rules value) q →
       Contains (values_of rules value) (value q)
-  its_value q x = in_map value (outside_of rules.groups) q (listed rules value q x)
+  its_value q x = in_map value (outside_of rules.groups) q (exits_are_listed rules value q x)
 
   pub decided_outside : (exits_tell rules value).decided ≡ true → AreDecidedOutside rules value
   decided_outside h q x = each_of is_decided (values_of rules value) (value q) h (its_value q x)
@@ -91,9 +91,9 @@ module _ (rules : RuleLines) (value : Board → Value) where
 
     module _ (none : bad_for (exits_tell rules value) (other_of side) ≡ false) (p : Board)
         (member : Member rules.groups p) where
-      mates : (n : ℕ) → slice_index codes (Num rules.groups p) ≡ code_of (Wins n) →
+      winning_code_mates : (n : ℕ) → slice_index codes (Num rules.groups p) ≡ code_of (Wins n) →
           MatesIn chess side n p
-      mates n e =
+      winning_code_mates n e =
           ((table_exactly rules value side codes table free).bound p (Wins n) member e).win exits
           (none_bad (other_of side) none) n refl
 
@@ -110,7 +110,7 @@ module _ (rules : RuleLines) (value : Board → Value) where
       pub exact_wins : (n : ℕ) →
           (slice_index codes (Num rules.groups p) ≡ code_of (Wins n)) ↔ MatesIn chess side n p
       exact_wins n = (
-        mates n,
+        winning_code_mates n,
         λ m. (
             let stored = stored_bound rules value side codes table p member in
             let code = slice_index codes (Num rules.groups p) in
@@ -118,7 +118,8 @@ module _ (rules : RuleLines) (value : Board → Value) where
             (exact_outcomes.win p member).1 (n, m.forced) in
             let is = (win_code stored.0).0 (sym (ap is_win stored.1) ∙ win) in
             let here : code ≡ code_of (Wins is.0) = stored.1 ∙ ap code_of is.1 in
-            here ∙ ap (λ (k : ℕ). code_of (Wins k)) (same_plies is.0 n (mates is.0 here) m)),
+            here ∙ ap (λ (k : ℕ). code_of (Wins k))
+            (same_plies is.0 n (winning_code_mates is.0 here) m)),
       )
 
 -- what each strength needs
@@ -155,16 +156,18 @@ exact_by false false values side h =
     by_bad true e d =
         absurd (let u : Outcomes ≡ Exact = rw (d, e) at h in cc)
 
-pub strong : (rules : RuleLines) (believed : ℕ) (values : ExitValues) (side : Colour) →
+pub strong_side_is_decided : (rules : RuleLines) (believed : ℕ) (values : ExitValues)
+    (side : Colour) →
     (strength_of rules believed values side ≡ Outcomes)
     ⊎ (strength_of rules believed values side ≡ Exact) →
     (HasNoForbid rules side) × (values.decided ≡ true)
-strong rules believed values side h =
+strong_side_is_decided rules believed values side h =
     strong_by (nat_lt 0 believed) (renounces rules side) values side h
 
-pub exact : (rules : RuleLines) (believed : ℕ) (values : ExitValues) (side : Colour) →
+pub nothing_bad_where_exact : (rules : RuleLines) (believed : ℕ) (values : ExitValues)
+    (side : Colour) →
     strength_of rules believed values side ≡ Exact → bad_for values (other_of side) ≡ false
-exact rules believed values side h =
+nothing_bad_where_exact rules believed values side h =
     exact_by (nat_lt 0 believed) (renounces rules side) values side h
 
 -- values, one by one
@@ -186,11 +189,11 @@ any_one test vs v =
     or_false true = refl
     or_false false = refl
 
-made : (d w b e x c : Bool) → d ≡ e → w ≡ x → b ≡ c →
+equal_fields_equal_values : (d w b e x c : Bool) → d ≡ e → w ≡ x → b ≡ c →
     let left : ExitValues = record { decided = d; bad_for_white = w; bad_for_black = b } in
     let right : ExitValues = record { decided = e; bad_for_white = x; bad_for_black = c } in
     left ≡ right
-made d w b e x c p q r = rw (p, q, r) refl
+equal_fields_equal_values d w b e x c p q r = rw (p, q, r) refl
 
 pub one_told : (vs : List Value) (v : Value) (told : ExitValues) (d w b : Bool) →
     told ≡ values_tell vs → d ≡ (told.decided && is_decided v) →
@@ -199,7 +202,7 @@ pub one_told : (vs : List Value) (v : Value) (told : ExitValues) (d w b : Bool) 
     let now : ExitValues = record { decided = d; bad_for_white = w; bad_for_black = b } in
     now ≡ values_tell (vs ++ v ∷ [])
 one_told vs v told d w b is p q r =
-    made d w b (list_all is_decided (vs ++ v ∷ []))
+    equal_fields_equal_values d w b (list_all is_decided (vs ++ v ∷ []))
     (list_any (λ x. is_bad (class_of x White)) (vs ++ v ∷ []))
     (list_any (λ x. is_bad (class_of x Black)) (vs ++ v ∷ []))
     (p ∙ ap (λ (t : ExitValues). t.decided && is_decided v) is ∙ sym (all_one is_decided vs v))

@@ -45,11 +45,11 @@ no_win_of_hold code e win =
 
 module _ (rules : RuleLines) (value : Board → Value) (exits : AreTrueExits rules value)
     (side : Colour) (q : Board) where
-  won : (b : Bound) (code : ℕ) → Means rules value side q b → code ≡ code_of b →
+  win_forces_mate : (b : Bound) (code : ℕ) → Means rules value side q b → code ≡ code_of b →
       is_win code ≡ true → (n : ℕ) × ForcesMate chess side n q
-  won (Wins n) code means e win = means.mate exits
-  won Holds code means e win = absurd (no_win_of_hold code e win)
-  won (Fails m) code means e win = absurd (no_win_of_failure m code e win)
+  win_forces_mate (Wins n) code means e win = means.mate exits
+  win_forces_mate Holds code means e win = absurd (no_win_of_hold code e win)
+  win_forces_mate (Fails m) code means e win = absurd (no_win_of_failure m code e win)
 
   won_in : (all : AllNumbered (game_of rules value) side) (b : Bound) (code c : ℕ) →
       Means rules value side q b → code ≡ code_of b → wins_within c code ≡ true →
@@ -63,31 +63,32 @@ module _ (rules : RuleLines) (value : Board → Value) (exits : AreTrueExits rul
   won_in all (Fails m) code c means e h =
       absurd (no_win_of_failure m code e (and_parts (is_win code) (nat_le code (2 + 2 * c)) h).0)
 
-  held : (b : Bound) (code : ℕ) → Means rules value side q b → code ≡ code_of b →
+  held_is_never_mated : (b : Bound) (code : ℕ) → Means rules value side q b → code ≡ code_of b →
       holds code ≡ true → NeverForcesMate chess (other_of side) q
-  held (Wins n) code means e h = means.safe exits
-  held Holds code means e h = means exits
-  held (Fails m) code means e h =
+  held_is_never_mated (Wins n) code means e h = means.safe exits
+  held_is_never_mated Holds code means e h = means exits
+  held_is_never_mated (Fails m) code means e h =
       elim (or_cases (code == 1) (is_win code) h) [
         | inl one ↦ absurd (let k = eqb-true code 1 one in omega arith)
         | inr win ↦ absurd (no_win_of_failure m code e win)
       ]
 
 -- each winning line of a text without uncounted ones gives its plies
-numbered : (v : Value) (side : Colour) → is_uncounted v side ≡ false → class_of v side ≡ Good →
+winning_value_is_numbered : (v : Value) (side : Colour) → is_uncounted v side ≡ false
+    → class_of v side ≡ Good →
     is_numbered v ≡ true
-numbered WhiteWins White u g = absurd (cc)
-numbered WhiteWins Black u g = absurd (cc)
-numbered BlackWins White u g = absurd (cc)
-numbered BlackWins Black u g = absurd (cc)
-numbered Draw side u g = absurd (cc)
-numbered WhiteHolds White u g = absurd (cc)
-numbered WhiteHolds Black u g = absurd (cc)
-numbered BlackHolds White u g = absurd (cc)
-numbered BlackHolds Black u g = absurd (cc)
-numbered Unknown side u g = absurd (cc)
-numbered (WhiteWinsIn n) side u g = refl
-numbered (BlackWinsIn n) side u g = refl
+winning_value_is_numbered WhiteWins White u g = absurd (cc)
+winning_value_is_numbered WhiteWins Black u g = absurd (cc)
+winning_value_is_numbered BlackWins White u g = absurd (cc)
+winning_value_is_numbered BlackWins Black u g = absurd (cc)
+winning_value_is_numbered Draw side u g = absurd (cc)
+winning_value_is_numbered WhiteHolds White u g = absurd (cc)
+winning_value_is_numbered WhiteHolds Black u g = absurd (cc)
+winning_value_is_numbered BlackHolds White u g = absurd (cc)
+winning_value_is_numbered BlackHolds Black u g = absurd (cc)
+winning_value_is_numbered Unknown side u g = absurd (cc)
+winning_value_is_numbered (WhiteWinsIn n) side u g = refl
+winning_value_is_numbered (BlackWinsIn n) side u g = refl
 
 none_at : (test : ExitLine → Bool) (lines : List ExitLine) (i : ℕ) (line : ExitLine) →
     list_any test lines ≡ false → slice_get lines i ≡ Some line → test line ≡ false
@@ -109,7 +110,7 @@ numbered_by false rules before side h = λ q x good.
       | inr (i, line, decides, first) ↦ (
           let u = none_at (λ l. is_uncounted l.value side) rules.exits i line none first.there in
           let g = sym (ap (λ v. class_of v side) first.value) ∙ good in
-          ap is_numbered first.value ∙ numbered line.value side u g)
+          ap is_numbered first.value ∙ winning_value_is_numbered line.value side u g)
     ])
 
 -- what the table says of a position is true there
@@ -139,9 +140,9 @@ module _ (link : Link) (value : Board → Value)
           Means link.rules value White q white → Means link.rules value Black q black →
           (v : Value) → codes_say link w b v ≡ true → IsTrueValue v q
       by_value w b white black we be wm bm WhiteWins h =
-          won link.rules value exits White q white w wm we h
+          win_forces_mate link.rules value exits White q white w wm we h
       by_value w b white black we be wm bm BlackWins h =
-          won link.rules value exits Black q black b bm be h
+          win_forces_mate link.rules value exits Black q black b bm be h
       by_value w b white black we be wm bm (WhiteWinsIn c) h =
           let both = and_parts (wins_within c w) (counts_wins link White) h in
           won_in link.rules value exits White q (counted White both.1) white w c wm we both.0
@@ -150,13 +151,13 @@ module _ (link : Link) (value : Board → Value)
           won_in link.rules value exits Black q (counted Black both.1) black b c bm be both.0
       by_value w b white black we be wm bm Draw h =
           let both = and_parts (holds w) (holds b) h in (
-            held link.rules value exits White q white w wm we both.0,
-            held link.rules value exits Black q black b bm be both.1,
+            held_is_never_mated link.rules value exits White q white w wm we both.0,
+            held_is_never_mated link.rules value exits Black q black b bm be both.1,
           )
       by_value w b white black we be wm bm WhiteHolds h =
-          held link.rules value exits White q white w wm we h
+          held_is_never_mated link.rules value exits White q white w wm we h
       by_value w b white black we be wm bm BlackHolds h =
-          held link.rules value exits Black q black b bm be h
+          held_is_never_mated link.rules value exits Black q black b bm be h
       by_value w b white black we be wm bm Unknown h = tt
 
   pub proves_at : (v : Value) → says_as_much v link q ≡ true → IsTrueValue v q

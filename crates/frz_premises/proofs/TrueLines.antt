@@ -30,7 +30,7 @@ use Rattle.frz_premises.specs.Believing.{BeliefHolds}
 use Rattle.frz_premises.specs.Deciding.{decided_by, decides}
 use Rattle.frz_premises.specs.Saying.{none_says, says_as_much, says_at_each}
 use Rattle.frz_premises.specs.WaysOut.{outside_of}
-use Rattle.frz_premises.proofs.Exits.{listed}
+use Rattle.frz_premises.proofs.Exits.{exits_are_listed}
 use Rattle.frz_premises.proofs.FirstLines.{decides_first, first_cases}
 use Rattle.frz_premises.proofs.InLists.{in_filter, none_found}
 use Rattle.frz_premises.proofs.TableWords.{Proves, all_prove}
@@ -97,12 +97,13 @@ tables_told links v qs q i h = by_find (find (none_says links v) qs) refl
         (by_need o (position_from (says_at_each v qs) 0 links))) e) ∙ h in cc)
 
 -- what shows that a line is true at an exit that it decides
-shown : (rules : RuleLines) (value : Board → Value) (links : List Link) → All Proves links →
+shown_line_is_true : (rules : RuleLines) (value : Board → Value) (links : List Link)
+    → All Proves links →
     (line : ExitLine) (q : Board) → IsExit (game_of rules value) q →
     conditions_hold q line.conds ≡ true → (qs : List Board) → Contains qs q →
     is_believed (basis_at rules.groups links line qs) ≡ false → IsTrueValue line.value q
-shown rules value links proves line q x hold [] i h = absurd (none_in_empty q i)
-shown rules value links proves line q x hold (first ∷ qs) i h =
+shown_line_is_true rules value links proves line q x hold [] i h = absurd (none_in_empty q i)
+shown_line_is_true rules value links proves line q x hold (first ∷ qs) i h =
     elim (cases_Bool (is_unknown line.value)) [
       | inl unknown ↦ unknown_true line.value q unknown
       | inr known ↦ elim (cases_Bool (is_true_by rules.groups line.conds line.value)) [
@@ -123,9 +124,10 @@ line_true rules value links proves i line there h q x d =
     let known = first.there in
     let same : w.0 ≡ line = cc in
     let hold = subst (λ (l : ExitLine). conditions_hold q l.conds ≡ true) same first.holds in
-    shown rules value links proves line q x hold
+    shown_line_is_true rules value links proves line q x hold
     (decided_by rules.exits i (outside_of rules.groups))
-    (in_filter (decides rules.exits i) (outside_of rules.groups) q (listed rules value q x) d) h
+    (in_filter (decides rules.exits i) (outside_of rules.groups) q
+    (exits_are_listed rules value q x) d) h
 
 -- none of several is counted
 zero_parts : (t : Bool) (n : ℕ) → cond t 1 0 + n ≡ 0 → (t ≡ false) × (n ≡ 0)

@@ -166,13 +166,14 @@ module _ (backs : List BackTable) (line : ExitLine) (qs : List Board) (q : Board
           says = λ still. absurd (let e : None ≡ Some q = sym still ∙ here in cc);
         }
 
-  pub noted : (groups : List GroupLine) → IsTried groups (map link_loaded backs) line qs old →
+  pub noted_trial_is_tried : (groups : List GroupLine)
+      → IsTried groups (map link_loaded backs) line qs old →
       new.settled ≡ old.settled → new.has_exits ≡ true →
       length new.says.items ≡ length backs →
       (old.settled ≡ None → IsHeard (map link_loaded backs) line qs old →
       IsHeard (map link_loaded backs) line (qs ++ q ∷ []) new) →
       IsTried groups (map link_loaded backs) line (qs ++ q ∷ []) new
-  noted groups tried same some many step = record {
+  noted_trial_is_tried groups tried same some many step = record {
     settled = same ∙ tried.settled;
     has_exits = some ∙ sym (some_more qs q);
     many = many ∙ sym (length-map backs link_loaded);
@@ -185,11 +186,12 @@ all_said : (v : Value) (links : List Link) →
 all_said v [] = refl
 all_said v (link ∷ links) = ap (λ bs. true ∷ bs) (all_said v links)
 
-pub begun : (groups : List GroupLine) (links : List Link) (line : ExitLine) (new : Trial)
+pub new_trial_is_tried : (groups : List GroupLine) (links : List Link) (line : ExitLine)
+    (new : Trial)
     (tables : ℕ) → length links ≡ tables → new.settled ≡ by_text groups line →
     new.has_exits ≡ false → new.need ≡ None → new.says.items ≡ replicate tables true →
     IsTried groups links line [] new
-begun groups links line new tables e settled none need all =
+new_trial_is_tried groups links line new tables e settled none need all =
     let said : new.says.items ≡ replicate (length links) true =
     all ∙ ap (λ n. replicate n true) (sym e) in
     record {
@@ -209,27 +211,29 @@ first_mapped f n [] = refl
 first_mapped f n (link ∷ links) =
     ap (cond (f link) (Some n)) (first_mapped f (n + 1) links)
 
-needed : (links : List Link) (line : ExitLine) (qs : List Board) (trial : Trial)
+need_agrees_with_tables : (links : List Link) (line : ExitLine) (qs : List Board) (trial : Trial)
     (place : Option ℕ) → IsHeard links line qs trial →
     place ≡ position_from (λ said. said) 0 trial.says.items →
     by_need trial.need place ≡ by_tables links line.value qs
-needed links line qs trial place heard at = by_cases trial.need refl
+need_agrees_with_tables links line qs trial place heard at = by_cases trial.need refl
   where
-    told : by_tables links line.value qs
+    tables_agree_with_need : by_tables links line.value qs
         ≡ by_need trial.need (position_from (says_at_each line.value qs) 0 links)
-    told = ap (λ o. by_need o (position_from (says_at_each line.value qs) 0 links))
+    tables_agree_with_need = ap
+        (λ o. by_need o (position_from (says_at_each line.value qs) 0 links))
         (sym heard.need)
 
     by_cases : (o : Option Board) → trial.need ≡ o →
         by_need trial.need place ≡ by_tables links line.value qs
     by_cases (Some q) e =
         ap (λ o. by_need o place) e
-        ∙ sym (told ∙ ap (λ o. by_need o (position_from (says_at_each line.value qs) 0 links)) e)
+        ∙ sym (tables_agree_with_need
+        ∙ ap (λ o. by_need o (position_from (says_at_each line.value qs) 0 links)) e)
     by_cases None e =
         ap (by_need trial.need)
         (at ∙ ap (position_from (λ said. said) 0) (heard.says e)
         ∙ first_mapped (says_at_each line.value qs) 0 links)
-        ∙ sym told
+        ∙ sym tables_agree_with_need
 
 pub basis_by : (groups : List GroupLine) (links : List Link) (line : ExitLine)
     (qs : List Board) (trial : Trial) (place : Option ℕ) → IsTried groups links line qs trial →
@@ -239,7 +243,7 @@ pub basis_by : (groups : List GroupLine) (links : List Link) (line : ExitLine)
 basis_by groups links line [] trial place tried some asked at =
     absurd (let none : true ≡ false = sym some ∙ tried.has_exits in cc)
 basis_by groups links line (q ∷ qs) trial place tried some asked at =
-    needed links line (q ∷ qs) trial place (tried.heard asked) at
+    need_agrees_with_tables links line (q ∷ qs) trial place (tried.heard asked) at
     ∙ ap (λ o. unwrap_or o (by_tables links line.value (q ∷ qs))) (sym asked ∙ tried.settled)
 
 -- the lines after one more exit
@@ -294,8 +298,8 @@ module _ (rules : RuleLines) (links : List Link) (qs : List Board) (q : Board)
       (here : (line : ExitLine) →
       IsTried rules.groups links (get_or rules.exits i line)
       (decided_by rules.exits i qs ++ q ∷ []) t) where
-    other : (k : ℕ) → k ≢ i → decides rules.exits k q ≡ false
-    other k apart = sym (ap (is_place k) at) ∙ ne_eqb i k (λ e. apart (sym e))
+    no_other_line_decides : (k : ℕ) → k ≢ i → decides rules.exits k q ≡ false
+    no_other_line_decides k apart = sym (ap (is_place k) at) ∙ ne_eqb i k (λ e. apart (sym e))
 
     by_place : (k : ℕ) (line : ExitLine) (trial : Trial) → k < length (set trials i t) →
         (k ≡ i) ⊎ (k ≡ i → ⊥) →
@@ -320,7 +324,7 @@ module _ (rules : RuleLines) (links : List Link) (qs : List Board) (q : Board)
         (sym (get_or-set_other trials i k t trial apart))
         (subst (λ (ds : List Board). IsTried rules.groups links (get_or rules.exits k line) ds
         (get_or trials k trial))
-        (others_stay rules.exits k qs q (other k apart))
+        (others_stay rules.exits k qs q (no_other_line_decides k apart))
         (tried.each k line trial inside))
 
     pub one_decides : AreTried rules links (qs ++ q ∷ []) (set trials i t)

@@ -16,8 +16,8 @@ pub record IsBest {X : Type 0} (test : X → Bool) (R : X → X → Type 0) (xs 
   pub passes : test x ≡ true
   pub best : (y : X) → Contains xs y → test y ≡ true → R x y
 
-self : {X : Type 0} (R : X → X → Type 0) → IsOrder R → (x : X) → R x x
-self R order x = elim (order.total x x) [ inl h ↦ h | inr h ↦ h ]
+order_is_reflexive : {X : Type 0} (R : X → X → Type 0) → IsOrder R → (x : X) → R x x
+order_is_reflexive R order x = elim (order.total x x) [ inl h ↦ h | inr h ↦ h ]
 
 -- the first element passes
 best_first : {X : Type 0} (test : X → Bool) (R : X → X → Type 0) → IsOrder R → (x : X)
@@ -32,7 +32,7 @@ best_first {X} test R order x xs t (inl r) =
           there = first_in x xs;
           passes = t;
           best = λ y i u. elim (in_cases x xs y i) [
-            | inl e ↦ subst (λ (z : X). R x z) e (self R order x)
+            | inl e ↦ subst (λ (z : X). R x z) e (order_is_reflexive R order x)
             | inr j ↦ order.trans x r.0 y before (r.1.best y j u)
           ];
         },
@@ -55,7 +55,7 @@ best_first {X} test R order x xs t (inr none) = (
     there = first_in x xs;
     passes = t;
     best = λ y i u. elim (in_cases x xs y i) [
-      | inl e ↦ subst (λ (z : X). R x z) e (self R order x)
+      | inl e ↦ subst (λ (z : X). R x z) e (order_is_reflexive R order x)
       | inr j ↦ absurd (none y j u)
     ];
   },

@@ -35,11 +35,11 @@ not_true true e = absurd (cc)
 not_true false e = refl
 
 -- the mover is the side or its opponent
-pub whose : (side mover : Colour) → (mover ≡ side) ⊎ (mover ≡ other_of side)
-whose White White = inl refl
-whose White Black = inr refl
-whose Black White = inr refl
-whose Black Black = inl refl
+pub mover_is_either_side : (side mover : Colour) → (mover ≡ side) ⊎ (mover ≡ other_of side)
+mover_is_either_side White White = inl refl
+mover_is_either_side White Black = inr refl
+mover_is_either_side Black White = inr refl
+mover_is_either_side Black Black = inl refl
 
 pub same_side : (side : Colour) → same_colour side side ≡ true
 same_side White = refl

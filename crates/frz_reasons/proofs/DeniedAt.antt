@@ -17,17 +17,17 @@ use Rattle.frz_reasons.specs.Denials.{DeniesWin, wrong, own, other, stalemate, f
 use Rattle.frz_reasons.specs.LocalEntries.{Agrees, Differs, wrong_at}
 use Rattle.frz_reasons.specs.ReasonTexts.{denials_text}
 use Rattle.frz_reasons.specs.TellingDenials.{TellsDenials, TellsOwn}
-use Rattle.frz_reasons.proofs.Codes.{whose, same_side, other_side}
+use Rattle.frz_reasons.proofs.Codes.{mover_is_either_side, same_side, other_side}
 use Rattle.frz_reasons.proofs.DenialsTold.{free_ones, no_answer}
 
 same_mover : (side mover : Colour) → same_colour mover side ≡ true → mover ≡ side
-same_mover side mover e = elim (whose side mover) [
+same_mover side mover e = elim (mover_is_either_side side mover) [
   | inl m ↦ m
   | inr m ↦ absurd (let f = ap (λ c. same_colour c side) m ∙ other_side side in cc)
 ]
 
 other_mover : (side mover : Colour) → same_colour mover side ≡ false → mover ≡ other_of side
-other_mover side mover e = elim (whose side mover) [
+other_mover side mover e = elim (mover_is_either_side side mover) [
   | inl m ↦ absurd (let f = ap (λ c. same_colour c side) m ∙ same_side side in cc)
   | inr m ↦ m
 ]
@@ -75,9 +75,9 @@ module _ (arena : Arena Step ℕ Value) (side : Colour) (codes : List ℕ) (numb
         }
 
     -- its opponent is to move
-    theirs : same_colour mover side ≡ false
+    opponent_to_move_denies : same_colour mover side ≡ false
         → DeniesWin arena side codes number (other_denials side codes (arena.arms number)) None
-    theirs e = other agrees (going ∙ ap Going (other_mover side mover e))
+    opponent_to_move_denies e = other agrees (going ∙ ap Going (other_mover side mover e))
 
     pub denied_other : same_colour mover side ≡ false → (old new : SinkTold)
         → TookText (denials_text (other_denials side codes arms)) old new
@@ -85,7 +85,7 @@ module _ (arena : Arena Step ℕ Value) (side : Colour) (codes : List ℕ) (numb
     denied_other e old new took = record {
       denials = other_denials side codes (arena.arms number);
       wrong = None;
-      denied = theirs e;
+      denied = opponent_to_move_denies e;
       wrote = record {
         ok = subst (λ l. TookText (denials_text (other_denials side codes l)) old new) same took;
         failed = tt;
@@ -100,7 +100,7 @@ module _ (arena : Arena Step ℕ Value) (side : Colour) (codes : List ℕ) (numb
     denied_failed e result old new err failed = record {
       denials = other_denials side codes (arena.arms number);
       wrong = None;
-      denied = theirs e;
+      denied = opponent_to_move_denies e;
       wrote = gave_up err
           (subst (λ l. FailedWithin (denials_text (other_denials side codes l)) old new) same
           failed);

@@ -118,9 +118,9 @@ module _ (rules : RuleLines) (value : Board → Value) (side : Colour) (codes : 
     pub legal : Contains (legal_moves_of p) a.mv
     pub same : a ≡ arm_at rules value p a.mv
 
-  made : (i : ℕ) (p : Board) (a : Arm Step ℕ Value) → position_at rules.groups i ≡ Some p
+  arm_is_made : (i : ℕ) (p : Board) (a : Arm Step ℕ Value) → position_at rules.groups i ≡ Some p
       → IsArm (graph_by rules value) i a → IsMade p a
-  made i p a at h =
+  arm_is_made i p a at h =
       let listed = subst (λ (xs : List (Arm Step ℕ Value)). Contains xs a)
       (arms_there rules value i p at) h in
       let from = from_mapped (arm_at rules value p) (legal_moves_of p) a listed in
@@ -157,10 +157,10 @@ module _ (rules : RuleLines) (value : Board → Value) (side : Colour) (codes : 
   game_from i xs e p at (mated c n) = tt
   game_from i xs e p at (renounced c n none) = tt
   game_from i xs e p at (leaves a v played out) =
-      let m = made i p a at (played_arm (graph_by rules value) side codes i a played) in
+      let m = arm_is_made i p a at (played_arm (graph_by rules value) side codes i a played) in
       (m.legal, λ mine. free_move i p a at played m mine, tt)
   game_from i xs e p at (goes_on {arms = others} a q played into rest) =
-      let m = made i p a at (played_arm (graph_by rules value) side codes i a played) in
+      let m = arm_is_made i p a at (played_arm (graph_by rules value) side codes i a played) in
       let there = arm_inside p a.mv q
       (sym (ap (λ (x : Arm Step ℕ Value). x.next) m.same) ∙ into) in (
         m.legal,
@@ -169,11 +169,11 @@ module _ (rules : RuleLines) (value : Board → Value) (side : Colour) (codes : 
       )
 
   -- none of the legal moves is free where none of the arms is
-  renounces : (i : ℕ) (p : Board) → position_at rules.groups i ≡ Some p
+  none_free_renounces : (i : ℕ) (p : Board) → position_at rules.groups i ≡ Some p
       → (graph_by rules value).node i ≡ Going side
       → ((a : Arm Step ℕ Value) → IsArm (graph_by rules value) i a → a.free ≢ true)
       → HasRenounced rules side p
-  renounces i p at n none =
+  none_free_renounces i p at n none =
       let turn = mover_of (is_member rules.groups p) (legal_moves_of p) (is_in_check p p.turn)
       p.turn side (node_there i p (Going side) at n) in
       record {
@@ -196,9 +196,9 @@ module _ (rules : RuleLines) (value : Board → Value) (side : Colour) (codes : 
       let m = mated_of (is_member rules.groups p) (legal_moves_of p) (is_in_check p p.turn) p.turn
       side (node_there i p (Mate side) at n) in
       record { to_move = m.0; no_move = m.1; attacked = m.2 }
-  end_at i xs e p at (renounced c n none) = renounces i p at n none
+  end_at i xs e p at (renounced c n none) = none_free_renounces i p at n none
   end_at i xs e p at (leaves a v played out) =
-      let m = made i p a at (played_arm (graph_by rules value) side codes i a played) in
+      let m = arm_is_made i p a at (played_arm (graph_by rules value) side codes i a played) in
       let left = arm_outside p a.mv v
       (sym (ap (λ (x : Arm Step ℕ Value). x.next) m.same) ∙ out) in
       record {
@@ -210,7 +210,7 @@ module _ (rules : RuleLines) (value : Board → Value) (side : Colour) (codes : 
         valued = left.1;
       }
   end_at i xs e p at (goes_on {arms = others} a q played into rest) =
-      let m = made i p a at (played_arm (graph_by rules value) side codes i a played) in
+      let m = arm_is_made i p a at (played_arm (graph_by rules value) side codes i a played) in
       let there = arm_inside p a.mv q
       (sym (ap (λ (x : Arm Step ℕ Value). x.next) m.same) ∙ into) in
       end_at q others e (after p a.mv) there rest

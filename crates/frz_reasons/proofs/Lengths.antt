@@ -85,56 +85,59 @@ module _ (arena : Arena Step ℕ Value) (side : Colour) (codes : List ℕ) where
         (tells number (subst (λ k. is_failure k ≡ true) (sym code) (failing_code n)) p.agrees) a p
 
     -- the rest of a way from a failure of n plies
-    pub few : (i n : ℕ) (xs : List (Arm Step ℕ Value)) (e : Reason) → slice_index codes i ≡ 3 + 2 * n
+    pub failure_bounds_plies : (i n : ℕ) (xs : List (Arm Step ℕ Value)) (e : Reason)
+        → slice_index codes i ≡ 3 + 2 * n
         → FailsFrom arena side codes i xs e
         → (length xs ≤ n) × (IsRight e → length xs ≡ n)
-    few i n xs e code (wrong d) = (omega arith, λ right. absurd right)
-    few i n xs e code (mated c m) =
+    failure_bounds_plies i n xs e code (wrong d) = (omega arith, λ right. absurd right)
+    failure_bounds_plies i n xs e code (mated c m) =
         let three = ends_mated i m
         (tells i (subst (λ k. is_failure k ≡ true) (sym code) (failing_code n)) c) in
         (omega arith, λ right. omega (arith, code, three))
-    few i n xs e code (renounced c m none) =
+    failure_bounds_plies i n xs e code (renounced c m none) =
         let three = ends_renounced i m none
         (tells i (subst (λ k. is_failure k ≡ true) (sym code) (failing_code n)) c) in
         (omega arith, λ right. omega (arith, code, three))
-    few i n xs e code (leaves a v p out) =
+    failure_bounds_plies i n xs e code (leaves a v p out) =
         let on = on_by i n a code p in
         let five = (leaves_bad i a v on out).1 in
         (omega (arith, code, five), λ right. omega (arith, code, five))
-    few i zero xs e code (goes_on a q p into rest) =
+    failure_bounds_plies i zero xs e code (goes_on a q p into rest) =
         absurd (let on = on_by i zero a code p in
         let less = goes_less i q a on into in
         let l = failure_least (slice_index codes q) less.1 in
         let k = less.0 in omega (arith, code, l, k))
-    few i (suc n) xs e code (goes_on {arms = others} a q p into rest) =
+    failure_bounds_plies i (suc n) xs e code (goes_on {arms = others} a q p into rest) =
         let on = on_by i (suc n) a code p in
         let less = (goes_less i q a on into).0 in
-        let go = few q n others e (omega (arith, code, less)) rest in
+        let go = failure_bounds_plies q n others e (omega (arith, code, less)) rest in
         let short = go.0 in
         (omega (arith, short), λ right. ap suc (go.1 right))
 
     -- a way from a failure leaves the set at a value that is bad for the side
-    pub spoiled : (i : ℕ) (xs : List (Arm Step ℕ Value)) (e : Reason)
+    pub failing_way_is_spoiled : (i : ℕ) (xs : List (Arm Step ℕ Value)) (e : Reason)
         → ((v : Value) → arena.class v side ≡ Bad → class_of v side ≡ Bad)
         → is_failure (slice_index codes i) ≡ true → FailsFrom arena side codes i xs e
         → IsSpoiled side e
-    spoiled i xs e bad failing (wrong d) = tt
-    spoiled i xs e bad failing (mated c n) = tt
-    spoiled i xs e bad failing (renounced c n none) = tt
-    spoiled i xs e bad failing (leaves a v p out) =
+    failing_way_is_spoiled i xs e bad failing (wrong d) = tt
+    failing_way_is_spoiled i xs e bad failing (mated c n) = tt
+    failing_way_is_spoiled i xs e bad failing (renounced c n none) = tt
+    failing_way_is_spoiled i xs e bad failing (leaves a v p out) =
         bad v (leaves_bad i a v (plays_on arena side codes i (tells i failing p.agrees) a p) out).0
-    spoiled i xs e bad failing (goes_on {arms = others} a q p into rest) =
-        spoiled q others e bad
+    failing_way_is_spoiled i xs e bad failing (goes_on {arms = others} a q p into rest) =
+        failing_way_is_spoiled q others e bad
         (goes_less i q a (plays_on arena side codes i (tells i failing p.agrees) a p) into).1 rest
 
   -- where each entry is right, no way ends at a wrong one
-  pub right : ((n : ℕ) → Agrees arena side codes n) → (i : ℕ) (xs : List (Arm Step ℕ Value))
+  pub right_entries_end_right : ((n : ℕ) → Agrees arena side codes n)
+      → (i : ℕ) (xs : List (Arm Step ℕ Value))
       (e : Reason) → FailsFrom arena side codes i xs e → IsRight e
-  right agrees i xs e (wrong d) = absurd (d (agrees i))
-  right agrees i xs e (mated c n) = tt
-  right agrees i xs e (renounced c n none) = tt
-  right agrees i xs e (leaves a v p out) = tt
-  right agrees i xs e (goes_on {arms = others} a q p into rest) = right agrees q others e rest
+  right_entries_end_right agrees i xs e (wrong d) = absurd (d (agrees i))
+  right_entries_end_right agrees i xs e (mated c n) = tt
+  right_entries_end_right agrees i xs e (renounced c n none) = tt
+  right_entries_end_right agrees i xs e (leaves a v p out) = tt
+  right_entries_end_right agrees i xs e (goes_on {arms = others} a q p into rest) =
+      right_entries_end_right agrees q others e rest
 
   -- in an exact table each entry is right
   pub each_agrees : (size : ℕ) → IsNumbered arena size → IsExact arena side size codes → (n : ℕ)

@@ -17,7 +17,7 @@ use Rattle.frz_arena.proofs.Lemmas.{first_in, at_broken}
 use Rattle.frz_reasons.specs.LocalEntries.{Agrees}
 use Rattle.frz_reasons.specs.FailuresTell.{FailsAt, code_behind, mated, renounced, moves, waits}
 use Rattle.frz_reasons.proofs.Best.{IsOrder, IsBest, best_of}
-use Rattle.frz_reasons.proofs.Codes.{win_no_failure, hold_no_failure, win_itself_no_failure, both_of, as_both, not_true, whose, same_side, other_side}
+use Rattle.frz_reasons.proofs.Codes.{win_no_failure, hold_no_failure, win_itself_no_failure, both_of, as_both, not_true, mover_is_either_side, same_side, other_side}
 
 module _ (arena : Arena Step ℕ Value) (side : Colour) (codes : List ℕ) (number : ℕ) where
   -- the code of an arm, and the local code
@@ -57,22 +57,22 @@ module _ (arena : Arena Step ℕ Value) (side : Colour) (codes : List ℕ) (numb
         given ≡ 1
 
   -- the arms by their codes: the least first, the greatest first, or in no order
-  upward : IsOrder (λ (a b : Arm Step ℕ Value). behind a ≤ behind b)
-  upward = record {
+  least_first_is_order : IsOrder (λ (a b : Arm Step ℕ Value). behind a ≤ behind b)
+  least_first_is_order = record {
     total = λ a b. elim (cases_lt (behind a) (behind b))
         [ inl l ↦ inl (omega (arith, l)) | inr l ↦ inr (omega (arith, l)) ];
     trans = λ a b c h k. omega (arith, h, k);
   }
 
-  downward : IsOrder (λ (a b : Arm Step ℕ Value). behind b ≤ behind a)
-  downward = record {
+  greatest_first_is_order : IsOrder (λ (a b : Arm Step ℕ Value). behind b ≤ behind a)
+  greatest_first_is_order = record {
     total = λ a b. elim (cases_lt (behind a) (behind b))
         [ inl l ↦ inr (omega (arith, l)) | inr l ↦ inl (omega (arith, l)) ];
     trans = λ a b c h k. omega (arith, h, k);
   }
 
-  anyhow : IsOrder (λ (a b : Arm Step ℕ Value). ⊤)
-  anyhow = record { total = λ a b. inl tt; trans = λ a b c h k. tt }
+  indifference_is_order : IsOrder (λ (a b : Arm Step ℕ Value). ⊤)
+  indifference_is_order = record { total = λ a b. inl tt; trans = λ a b c h k. tt }
 
   false_of : (x : Bool) → (x ≡ true → ⊥) → x ≡ false
   false_of true h = absurd (h refl)
@@ -84,8 +84,8 @@ module _ (arena : Arena Step ℕ Value) (side : Colour) (codes : List ℕ) (numb
 
   module _ (laws : Laws) (failing : is_failure (slice_index codes number) ≡ true)
       (agrees : Agrees arena side codes number) where
-    fails : is_failure given ≡ true
-    fails = subst (λ c. is_failure c ≡ true) agrees failing
+    given_code_fails : is_failure given ≡ true
+    given_code_fails = subst (λ c. is_failure c ≡ true) agrees failing
 
     -- no free arm wins and each fails
     own_by : arena.node number ≡ Going side →
@@ -103,28 +103,29 @@ module _ (arena : Arena Step ℕ Value) (side : Colour) (codes : List ℕ) (numb
         moves n r.0 r.1.there r.1.passes (sym (agrees ∙ law)) all
     own_by n each (inr none) = renounced n (agrees ∙ laws.own_none n none) none
 
-    own : arena.node number ≡ Going side → FailsAt arena side codes number
-    own n =
+    fails_at_own_move : arena.node number ≡ Going side → FailsAt arena side codes number
+    fails_at_own_move n =
         elim (best_of (λ (a : Arm Step ℕ Value). a.free && is_win (behind a))
-        (λ a b. behind a ≤ behind b) upward (arena.arms number)) [
+        (λ a b. behind a ≤ behind b) least_first_is_order (arena.arms number)) [
           | inl r ↦ absurd (
               let t = both_of r.0.free (is_win (behind r.0)) r.1.passes in
               win_no_failure given (behind r.0) t.1
               (laws.own_win n r.0 r.1.there t.0 t.1
-              (λ b i u w. r.1.best b i (as_both b.free (is_win (behind b)) u w))) fails)
+              (λ b i u w. r.1.best b i (as_both b.free (is_win (behind b)) u w))) given_code_fails)
           | inr no_win ↦ elim (best_of
               (λ (a : Arm Step ℕ Value). a.free && not (is_failure (behind a)))
-              (λ a b. ⊤) anyhow (arena.arms number)) [
+              (λ a b. ⊤) indifference_is_order (arena.arms number)) [
                 | inl r ↦ absurd (
                     let t = both_of r.0.free (not (is_failure (behind r.0))) r.1.passes in
                     hold_no_failure given
                     (laws.own_hold n r.0 r.1.there t.0 (not_true (is_failure (behind r.0)) t.1)
                     (λ b i u. false_of (is_win (behind b))
-                    (λ w. no_win b i (as_both b.free (is_win (behind b)) u w)))) fails)
+                    (λ w. no_win b i (as_both b.free (is_win (behind b)) u w)))) given_code_fails)
                 | inr no_hold ↦ own_by n
                     (λ b i u. true_of (is_failure (behind b))
                     (λ h. no_hold b i (as_both b.free (not (is_failure (behind b))) u h)))
-                    (best_of (λ (a : Arm Step ℕ Value). a.free) (λ a b. behind b ≤ behind a) downward
+                    (best_of (λ (a : Arm Step ℕ Value). a.free) (λ a b. behind b ≤ behind a)
+                    greatest_first_is_order
                     (arena.arms number))
               ]
         ]
@@ -134,28 +135,31 @@ module _ (arena : Arena Step ℕ Value) (side : Colour) (codes : List ℕ) (numb
     some_in [] h = absurd (h refl)
     some_in (a ∷ arms) h = (a, first_in a arms)
 
-    other : IsLawful arena → arena.node number ≡ Going (other_of side) →
+    fails_at_other_move : IsLawful arena → arena.node number ≡ Going (other_of side) →
         FailsAt arena side codes number
-    other law n =
+    fails_at_other_move law n =
         elim (best_of (λ (a : Arm Step ℕ Value). is_failure (behind a))
-        (λ a b. behind a ≤ behind b) upward (arena.arms number)) [
+        (λ a b. behind a ≤ behind b) least_first_is_order (arena.arms number)) [
           | inl r ↦ waits n r.0 r.1.there r.1.passes
               (sym (agrees ∙ laws.other_failure n r.0 r.1.there r.1.passes r.1.best)) r.1.best
           | inr no_failure ↦ elim (best_of
               (λ (a : Arm Step ℕ Value). not (is_win (behind a)))
-              (λ a b. ⊤) anyhow (arena.arms number)) [
+              (λ a b. ⊤) indifference_is_order (arena.arms number)) [
                 | inl r ↦ absurd (hold_no_failure given
                     (laws.other_hold n r.0 r.1.there (not_true (is_win (behind r.0)) r.1.passes)
-                    (λ b i. false_of (is_failure (behind b)) (λ w. no_failure b i w))) fails)
+                    (λ b i. false_of (is_failure (behind b)) (λ w. no_failure b i w)))
+                    given_code_fails)
                 | inr no_hold ↦ elim (best_of
-                    (λ (a : Arm Step ℕ Value). true) (λ a b. behind b ≤ behind a) downward
+                    (λ (a : Arm Step ℕ Value). true) (λ a b. behind b ≤ behind a)
+                    greatest_first_is_order
                     (arena.arms number)) [
                       | inl r ↦ absurd (
                           let each : (b : Arm Step ℕ Value) → IsArm arena number b →
                           is_win (behind b) ≡ true =
                           λ b i. true_of (is_win (behind b)) (λ h. no_hold b i h) in
                           win_no_failure given (behind r.0) (each r.0 r.1.there)
-                          (laws.other_win n r.0 r.1.there (λ b i. (each b i, r.1.best b i refl))) fails)
+                          (laws.other_win n r.0 r.1.there (λ b i. (each b i, r.1.best b i refl)))
+                          given_code_fails)
                       | inr none ↦ absurd (
                           let some = some_in (arena.arms number) (law.goes_on number (other_of side) n) in
                           none some.0 some.1 refl)
@@ -167,9 +171,10 @@ module _ (arena : Arena Step ℕ Value) (side : Colour) (codes : List ℕ) (numb
         given ≡ (if same_colour mover side then 3 else 2)
     at_mate mover e = rw e refl
 
-    mate : (mover : Colour) → arena.node number ≡ Mate mover → FailsAt arena side codes number
-    mate mover e =
-        elim (whose side mover) [
+    fails_at_mate : (mover : Colour) → arena.node number ≡ Mate mover
+        → FailsAt arena side codes number
+    fails_at_mate mover e =
+        elim (mover_is_either_side side mover) [
           | inl m ↦ mated (e ∙ ap Mate m) (agrees ∙ at_mate mover e
               ∙ ap (λ (b : Bool). if b then 3 else 2)
               (ap (λ c. same_colour c side) m ∙ same_side side))
@@ -177,17 +182,20 @@ module _ (arena : Arena Step ℕ Value) (side : Colour) (codes : List ℕ) (numb
               let two : given ≡ 2 = at_mate mover e
               ∙ ap (λ (b : Bool). if b then 3 else 2)
               (ap (λ c. same_colour c side) m ∙ other_side side) in
-              win_itself_no_failure given (subst (λ c. is_win c ≡ true) (sym two) refl) fails)
+              win_itself_no_failure given (subst (λ c. is_win c ≡ true) (sym two) refl)
+              given_code_fails)
         ]
 
     pub fails_by : IsLawful arena → (node : Node) → arena.node number ≡ node →
         FailsAt arena side codes number
     fails_by law Broken e = absurd (
         let none = at_broken arena side (λ k. slice_index codes k) number e in
-        let broken : is_failure 0 ≡ true = subst (λ c. is_failure c ≡ true) none fails in cc)
-    fails_by law (Mate mover) e = mate mover e
+        let broken : is_failure 0 ≡ true = subst (λ c. is_failure c ≡ true) none given_code_fails in
+        cc)
+    fails_by law (Mate mover) e = fails_at_mate mover e
     fails_by law (Stalemate mover) e =
-        absurd (hold_no_failure given (rw e refl) fails)
+        absurd (hold_no_failure given (rw e refl) given_code_fails)
     fails_by law (Going mover) e =
-        elim (whose side mover)
-        [ inl m ↦ own (e ∙ ap Going m) | inr m ↦ other law (e ∙ ap Going m) ]
+        elim (mover_is_either_side side mover)
+        [ inl m ↦ fails_at_own_move (e ∙ ap Going m)
+        | inr m ↦ fails_at_other_move law (e ∙ ap Going m) ]

@@ -59,31 +59,34 @@ module _ (arena : Arena Step ℕ Value) (side : Colour) (codes : List ℕ)
   two_less number a b p less =
       let c = played_code arena side codes number a p in omega (arith, c, less)
 
-  pub soonest : (number : ℕ) → FailsAt arena side codes number → (a : Arm Step ℕ Value)
+  pub opponent_plays_quickest : (number : ℕ) → FailsAt arena side codes number
+      → (a : Arm Step ℕ Value)
       → IsPlayedAt arena side codes number a → arena.node number ≡ Going (other_of side)
       → (b : Arm Step ℕ Value) → IsArm arena number b → (n : ℕ) → FailsBehind arena side n b
       → FailsBehind arena side n a
-  soonest number (mated m three) a p going b i n h =
+  opponent_plays_quickest number (mated m three) a p going b i n h =
       absurd (let e = sym m ∙ going in cc)
-  soonest number (renounced m three none) a p going b i n h =
+  opponent_plays_quickest number (renounced m three none) a p going b i n h =
       absurd (not_other side (let e = sym m ∙ going in cc))
-  soonest number (moves m d j t less each) a p going b i n h =
+  opponent_plays_quickest number (moves m d j t less each) a p going b i n h =
       absurd (not_other side (let e = sym m ∙ going in cc))
-  soonest number (waits m d j f less each) a p going b i n h =
+  opponent_plays_quickest number (waits m d j f less each) a p going b i n h =
       let same = two_less number a d p less in
       let first = each b i (code_at n b.next h).0 in
       no_later n a b (subst (λ k. is_failure k ≡ true) same f) (omega (arith, same, first)) h
 
-  pub longest : (number : ℕ) → FailsAt arena side codes number → (a : Arm Step ℕ Value)
+  pub side_holds_out_longest : (number : ℕ) → FailsAt arena side codes number
+      → (a : Arm Step ℕ Value)
       → IsPlayedAt arena side codes number a → arena.node number ≡ Going side
       → (b : Arm Step ℕ Value) → IsArm arena number b → b.free ≡ true → (n : ℕ)
       → FailsBehind arena side n a → FailsBehind arena side n b
-  longest number (mated m three) a p going b i t n h = absurd (let e = sym m ∙ going in cc)
-  longest number (renounced m three none) a p going b i t n h = absurd (none b i t)
-  longest number (moves m d j u less each) a p going b i t n h =
+  side_holds_out_longest number (mated m three) a p going b i t n h = absurd
+      (let e = sym m ∙ going in cc)
+  side_holds_out_longest number (renounced m three none) a p going b i t n h = absurd (none b i t)
+  side_holds_out_longest number (moves m d j u less each) a p going b i t n h =
       let same = two_less number a d p less in
       let last = each b i t in
       let le = last.1 in
       no_later n b a last.0 (omega (arith, same, le)) h
-  longest number (waits m d j f less each) a p going b i t n h =
+  side_holds_out_longest number (waits m d j f less each) a p going b i t n h =
       absurd (not_other side (let e = sym going ∙ m in cc))

@@ -31,10 +31,10 @@ code_there f arms k a here =
     (slice_get-map f arms k ∙ ap (option_map f) here)
 
 -- the same with other names for what is given
-moved : (own own' : Bool) (code code' : ℕ) (arms arms' : List (Arm Step ℕ Value))
+one_under_other_names : (own own' : Bool) (code code' : ℕ) (arms arms' : List (Arm Step ℕ Value))
     (cs cs' : List ℕ) → own ≡ own' → code ≡ code' → arms ≡ arms' → cs ≡ cs' → (k : ℕ)
     → IsOneAt own (code - 2) arms cs k → IsOneAt own' (code' - 2) arms' cs' k
-moved own own' code code' arms arms' cs cs' e f g h k one =
+one_under_other_names own own' code code' arms arms' cs cs' e f g h k one =
     subst (λ z. IsOneAt own' (code' - 2) arms' z k) h
     (subst (λ z. IsOneAt own' (code' - 2) z cs k) g
     (subst (λ z. IsOneAt own' (z - 2) arms cs k) f
@@ -95,9 +95,9 @@ module _ (arena : Arena Step ℕ Value) (size : ℕ) (finite : IsFinite arena si
         };
       }
 
-  placed : (a : Arm Step ℕ Value) → IsArm arena number a
+  arm_has_place : (a : Arm Step ℕ Value) → IsArm arena number a
       → (k : ℕ) × (slice_get arms k ≡ Some a)
-  placed a h = (h.0, slice_get_read arms (length arms) h.0 a refl h.1 (sym h.2))
+  arm_has_place a h = (h.0, slice_get_read arms (length arms) h.0 a refl h.1 (sym h.2))
 
   asked_by : (a : Arm Step ℕ Value) → code_behind arena side codes a + 2
       ≡ slice_index codes number → code_behind arena side codes a ≡ asked
@@ -110,11 +110,11 @@ module _ (arena : Arena Step ℕ Value) (size : ℕ) (finite : IsFinite arena si
   renounced_there (mated n three) none = absurd (let e = sym n ∙ turn in cc)
   renounced_there (renounced n three nothing) none = ways.renounced agrees n nothing
   renounced_there (moves n a i t less each) none =
-      let p = placed a i in
+      let p = arm_has_place a i in
       absurd (none p.0 (one_at p.0 a p.1 (as_candidate arena side codes mover asked a
       (λ _. t) (asked_by a less))))
   renounced_there (waits n a i f less each) none =
-      let p = placed a i in
+      let p = arm_has_place a i in
       let theirs : mover ≡ other_of side = (let e = sym turn ∙ n in cc) in
       absurd (none p.0 (one_at p.0 a p.1 (as_candidate arena side codes mover asked a
       (λ own. absurd (let c = ap (λ m. same_colour m side) theirs ∙ other_side side in cc))
@@ -128,10 +128,12 @@ module _ (arena : Arena Step ℕ Value) (size : ℕ) (finite : IsFinite arena si
         → (a : Arm Step ℕ Value) → a ≡ get_or list k a → IsPlayedAt arena side codes number a
     played_as k one before a is =
         played_first k
-        (moved own (same_colour mover side) code (slice_index codes number) list arms cs read
+        (one_under_other_names own (same_colour mover side) code (slice_index codes number) list
+        arms cs read
         same_own same_code same_list same_cs k one)
         (λ j l other. before j l
-        (moved (same_colour mover side) own (slice_index codes number) code arms list read cs
+        (one_under_other_names (same_colour mover side) own (slice_index codes number) code arms
+        list read cs
         (sym same_own) (sym same_code) (sym same_list) (sym same_cs) j other))
         a (is ∙ ap (λ (l : List (Arm Step ℕ Value)). get_or l k a) same_list)
 
@@ -140,7 +142,8 @@ module _ (arena : Arena Step ℕ Value) (size : ℕ) (finite : IsFinite arena si
         → FailsFrom arena side codes number [] Renounced
     renounced_as fails none =
         renounced_there fails (λ j other. none j
-        (moved (same_colour mover side) own (slice_index codes number) code arms list read cs
+        (one_under_other_names (same_colour mover side) own (slice_index codes number) code arms
+        list read cs
         (sym same_own) (sym same_code) (sym same_list) (sym same_cs) j other))
 
 -- a mate where the side fails is its own

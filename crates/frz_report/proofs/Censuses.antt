@@ -19,13 +19,14 @@ pub class_itself : (c : Class) → bytes_eq c c ≡ true
 class_itself c = (bytes_eq-Decides c c).1 refl
 
 -- a class that differs from another differs from those equal to it
-pub turned : (c d : Class) (b : Bool) → bytes_eq c d ≡ b → bytes_eq d c ≡ b
-turned c d true e = subst (λ (x : Class). bytes_eq x c ≡ true) (same_class c d e) (class_itself c)
-turned c d false e = other (bytes_eq d c) refl
+pub equality_is_symmetric : (c d : Class) (b : Bool) → bytes_eq c d ≡ b → bytes_eq d c ≡ b
+equality_is_symmetric c d true e = subst (λ (x : Class). bytes_eq x c ≡ true) (same_class c d e)
+    (class_itself c)
+equality_is_symmetric c d false e = differs_turned_round (bytes_eq d c) refl
   where
-    other : (b : Bool) → bytes_eq d c ≡ b → bytes_eq d c ≡ false
-    other false h = h
-    other true h =
+    differs_turned_round : (b : Bool) → bytes_eq d c ≡ b → bytes_eq d c ≡ false
+    differs_turned_round false h = h
+    differs_turned_round true h =
         let no : false ≡ true = sym e ∙ ap (bytes_eq c) (same_class d c h) ∙ class_itself c in cc
 
 abbrev pub others : Class → Class → Bool
@@ -130,14 +131,14 @@ firsts_more (c ∷ cs) x = by_met (list_any (bytes_eq x) cs) refl (firsts_more c
     by_first : (b : Bool) → bytes_eq x c ≡ b → firsts (cs ++ x ∷ []) ≡ firsts cs ++ x ∷ []
         → goes (b || false)
     by_first true e h =
-        let same : bytes_eq c x ≡ true = turned x c true e in
+        let same : bytes_eq c x ≡ true = equality_is_symmetric x c true e in
         ap (whole c) h
         ∙ ap (λ (l : List Class). c ∷ l)
         (filter-append (others c) (firsts cs) (x ∷ [])
         ∙ ap (λ (b : Bool). filter (others c) (firsts cs) ++ cond (not b) (x ∷ []) []) same
         ∙ append-nil (filter (others c) (firsts cs)))
     by_first false e h =
-        let apart : bytes_eq c x ≡ false = turned x c false e in
+        let apart : bytes_eq c x ≡ false = equality_is_symmetric x c false e in
         ap (whole c) h
         ∙ ap (λ (l : List Class). c ∷ l)
         (filter-append (others c) (firsts cs) (x ∷ [])

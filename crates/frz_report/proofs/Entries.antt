@@ -9,7 +9,7 @@ use Rattle.arrayvec.specs.ArrayString.{ArrayString}
 use Rattle.indexmap.specs.IndexMap.{insert_entry}
 use Rattle.frz_report.specs.Census.{firsts, times, census}
 use Rattle.frz_report.specs.Walks.{Counts, lettered}
-use Rattle.frz_report.proofs.Censuses.{Class, Differs, any_firsts, class_itself, firsts_distinct, firsts_more, once, same_class, times_more, times_none, turned}
+use Rattle.frz_report.proofs.Censuses.{Class, Differs, any_firsts, class_itself, equality_is_symmetric, firsts_distinct, firsts_more, once, same_class, times_more, times_none}
 
 -- classes with a number each
 abbrev pub tally : (Class → ℕ) → List Class → List (Class × ℕ)
@@ -47,26 +47,29 @@ times_looked_up cs x = looked_up (times cs) x (firsts cs) ∙ ap (λ (b : Bool).
     times_met_or_not false e = ap (λ (b : Bool). cond b (times cs x) 0) e ∙ sym (times_none cs x e)
 
 module _ (f g : Class → ℕ) (x : Class) (more : (c : Class) → g c ≡ f c + once (bytes_eq c x)) where
-  kept : (c : Class) → bytes_eq x c ≡ false → g c ≡ f c
-  kept c apart = more c ∙ ap (λ (b : Bool). f c + once b) (turned x c false apart) ∙ omega arith
+  other_count_stays : (c : Class) → bytes_eq x c ≡ false → g c ≡ f c
+  other_count_stays c apart = more c
+      ∙ ap (λ (b : Bool). f c + once b) (equality_is_symmetric x c false apart) ∙ omega arith
 
-  risen : (c : Class) → bytes_eq x c ≡ true → g c ≡ f x + 1
-  risen c same = more c ∙ ap (λ (b : Bool). f c + once b) (turned x c true same)
+  same_count_rises : (c : Class) → bytes_eq x c ≡ true → g c ≡ f x + 1
+  same_count_rises c same = more c
+      ∙ ap (λ (b : Bool). f c + once b) (equality_is_symmetric x c true same)
       ∙ ap (λ (d : Class). f d + 1) (sym (same_class x c same))
 
   others_kept : (ks : List Class) → Differs x ks → tally f ks ≡ tally g ks
   others_kept [] h = refl
-  others_kept (c ∷ ks) h = ap (λ (n : ℕ). (c, n) ∷ tally f ks) (sym (kept c h.0))
+  others_kept (c ∷ ks) h = ap (λ (n : ℕ). (c, n) ∷ tally f ks) (sym (other_count_stays c h.0))
       ∙ ap (λ (l : List (Class × ℕ)). (c, g c) ∷ l) (others_kept ks h.1)
 
   -- a new class goes last
   new_entry : (ks : List Class) → Differs x ks → insert_entry bytes_eq (tally f ks) x (f x + 1)
       ≡ tally g (ks ++ x ∷ [])
-  new_entry [] h = ap (λ (n : ℕ). (x, n) ∷ []) (sym (risen x (class_itself x)))
+  new_entry [] h = ap (λ (n : ℕ). (x, n) ∷ []) (sym (same_count_rises x (class_itself x)))
   new_entry (c ∷ ks) h =
       ap (λ (b : Bool). if b then (c, f x + 1) ∷ tally f ks else (c, f c) ∷ insert_entry bytes_eq
       (tally f ks) x (f x + 1)) h.0
-      ∙ ap (λ (n : ℕ). (c, n) ∷ insert_entry bytes_eq (tally f ks) x (f x + 1)) (sym (kept c h.0))
+      ∙ ap (λ (n : ℕ). (c, n) ∷ insert_entry bytes_eq (tally f ks) x (f x + 1))
+      (sym (other_count_stays c h.0))
       ∙ ap (λ (l : List (Class × ℕ)). (c, g c) ∷ l) (new_entry ks h.1)
 
   -- what differs from an equal one differs
@@ -89,13 +92,14 @@ module _ (f g : Class → ℕ) (x : Class) (more : (c : Class) → g c ≡ f c +
       entry_here_or_later true e here rest =
           ap (λ (b : Bool). if b then (c, f x + 1) ∷ tally f ks
           else (c, f c) ∷ insert_entry bytes_eq (tally f ks) x (f x + 1)) e
-          ∙ ap (λ (n : ℕ). (c, n) ∷ tally f ks) (sym (risen c e))
+          ∙ ap (λ (n : ℕ). (c, n) ∷ tally f ks) (sym (same_count_rises c e))
           ∙ ap (λ (l : List (Class × ℕ)). (c, g c) ∷ l)
           (others_kept ks (differs_too c ks e apart.0))
       entry_here_or_later false e later rest =
           ap (λ (b : Bool). if b then (c, f x + 1) ∷ tally f ks
           else (c, f c) ∷ insert_entry bytes_eq (tally f ks) x (f x + 1)) e
-          ∙ ap (λ (n : ℕ). (c, n) ∷ insert_entry bytes_eq (tally f ks) x (f x + 1)) (sym (kept c e))
+          ∙ ap (λ (n : ℕ). (c, n) ∷ insert_entry bytes_eq (tally f ks) x (f x + 1))
+          (sym (other_count_stays c e))
           ∙ ap (λ (l : List (Class × ℕ)). (c, g c) ∷ l) (rest later)
 
 -- none of these is equal to it
@@ -113,20 +117,21 @@ pub census_more : (cs : List Class) (x : Class)
     → insert_entry bytes_eq (census cs) x (times cs x + 1) ≡ census (cs ++ x ∷ [])
 census_more cs x = census_met_or_not (list_any (bytes_eq x) cs) refl
   where
-    more : (c : Class) → times (cs ++ x ∷ []) c ≡ times cs c + once (bytes_eq c x)
-    more c = times_more cs x c
+    counted_once_more : (c : Class) → times (cs ++ x ∷ []) c ≡ times cs c + once (bytes_eq c x)
+    counted_once_more c = times_more cs x c
 
     census_met_or_not : (b : Bool) → list_any (bytes_eq x) cs ≡ b
         → insert_entry bytes_eq (census cs) x (times cs x + 1) ≡ census (cs ++ x ∷ [])
     census_met_or_not true e =
         let same : firsts (cs ++ x ∷ []) ≡ firsts cs = firsts_more cs x
         ∙ ap (λ (b : Bool). cond b (firsts cs) (firsts cs ++ x ∷ [])) e in
-        old_entry (times cs) (times (cs ++ x ∷ [])) x more (firsts cs) (firsts_distinct cs)
+        old_entry (times cs) (times (cs ++ x ∷ [])) x counted_once_more (firsts cs)
+        (firsts_distinct cs)
         (any_firsts x cs ∙ e) ∙ sym (ap (tally (times (cs ++ x ∷ []))) same)
     census_met_or_not false e =
         let last : firsts (cs ++ x ∷ []) ≡ firsts cs ++ x ∷ [] = firsts_more cs x
         ∙ ap (λ (b : Bool). cond b (firsts cs) (firsts cs ++ x ∷ [])) e in
-        new_entry (times cs) (times (cs ++ x ∷ [])) x more (firsts cs)
+        new_entry (times cs) (times (cs ++ x ∷ [])) x counted_once_more (firsts cs)
         (none_there x (firsts cs) (any_firsts x cs ∙ e))
         ∙ sym (ap (tally (times (cs ++ x ∷ []))) last)
 

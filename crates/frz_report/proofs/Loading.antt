@@ -40,13 +40,14 @@ module _ (files : Option Files) (tab : Table) (old new : SinkTold) where
         may = kept.may;
         file = kept.file;
         wrote = subst (λ (c : Colour → List ℕ). WritesReport tab.rules (value_by tab.rules) c result
-            old new) (λ j side. same side j) h;
+            old new) (λ j side. slices_are_kept side j) h;
       })
     where
-      same : (side : Colour) → of_side side white_slice black_slice ≡ kept_codes (contents_of tab)
+      slices_are_kept : (side : Colour)
+          → of_side side white_slice black_slice ≡ kept_codes (contents_of tab)
           kept.bytes side
-      same White = white_is ∙ sym kept.white_is
-      same Black = black_is ∙ sym kept.black_is
+      slices_are_kept White = white_is ∙ sym kept.white_is
+      slices_are_kept Black = black_is ∙ sym kept.black_is
 
 -- nothing is written where the codes were not loaded
 pub unloaded_writes : (files : Option Files) (tab : Table) (out : SinkTold) (fault : TableFault)

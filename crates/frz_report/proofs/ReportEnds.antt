@@ -127,9 +127,9 @@ module _ (job : Job) (may : MayReport job) (rules : RuleLines) (value : Board �
         halted_so stops.NoMemory h.text h.rest may.memory h.lines h.wrote h.begins h.finishes
 
     -- a fault before anything was written
-    pub unreported : (fault : Fault) → MayMeet job fault start finish → out_new ≡ out_old
+    pub nothing_reported : (fault : Fault) → MayMeet job fault start finish → out_new ≡ out_old
         → Ran job (Stopped fault) start finish
-    unreported fault meets same =
+    nothing_reported fault meets same =
         halted_so fault [] whole meets (inl refl)
         (subst (λ (o : SinkTold). TookText [] out_old o) (sym same) (took_nothing out_old)) refl
         (report_said rules value kept)

@@ -143,10 +143,10 @@ module _ (groups : List GroupLine) (codes : Colour → List ℕ) where
       }
 
   is_from : (a n : ℕ) (s : Squeeze) → Contains (from a n) s → IsFrom a n s
-  is_from a zero s h = absurd (none h.0 h.1)
+  is_from a zero s h = absurd (none_below_zero h.0 h.1)
     where
-      none : (k : ℕ) → k < 0 → ⊥
-      none k h = omega arith
+      none_below_zero : (k : ℕ) → k < 0 → ⊥
+      none_below_zero k h = omega arith
   is_from a (suc n) s h =
       from_here_or_later (squeeze_at groups codes a) refl h (λ rest. is_from (a + 1) n s rest)
     where
@@ -168,35 +168,35 @@ module _ (groups : List GroupLine) (codes : Colour → List ℕ) where
 
   is_listed : (a n : ℕ) (s : Squeeze) → IsSqueeze groups codes s → a ≤ s.white_to_move
       → s.white_to_move < a + n → Contains (from a n) s
-  is_listed a zero s is low high = absurd (none low high)
+  is_listed a zero s is low high = absurd (no_number_between low high)
     where
-      none : a ≤ s.white_to_move → s.white_to_move < a + 0 → ⊥
-      none low high = omega arith
+      no_number_between : a ≤ s.white_to_move → s.white_to_move < a + 0 → ⊥
+      no_number_between low high = omega arith
   is_listed a (suc n) s is low high =
-      ⊎_elim (λ (e : a ≡ s.white_to_move). here e (squeeze_at groups codes a) refl)
-      (λ (apart : a ≢ s.white_to_move). past (squeeze_at groups codes a)
+      ⊎_elim (λ (e : a ≡ s.white_to_move). listed_here e (squeeze_at groups codes a) refl)
+      (λ (apart : a ≢ s.white_to_move). listed_later (squeeze_at groups codes a)
       (is_listed (a + 1) n s is (omega arith) (omega arith))) (cases_eq a s.white_to_move)
     where
-      here : a ≡ s.white_to_move → (o : Option Squeeze) → squeeze_at groups codes a ≡ o
+      listed_here : a ≡ s.white_to_move → (o : Option Squeeze) → squeeze_at groups codes a ≡ o
           → Contains (cons_option o (from (a + 1) n)) s
-      here e o at =
+      listed_here e o at =
           let there : o ≡ Some s = sym at ∙ ap (squeeze_at groups codes) e ∙ found_there s is in
           subst (λ (x : Option Squeeze). Contains (cons_option x (from (a + 1) n)) s) (sym there)
           (contains_first s (from (a + 1) n))
 
-      past : (o : Option Squeeze) → Contains (from (a + 1) n) s
+      listed_later : (o : Option Squeeze) → Contains (from (a + 1) n) s
           → Contains (cons_option o (from (a + 1) n)) s
-      past None h = h
-      past (Some t) h = contains_later t s (from (a + 1) n) h
+      listed_later None h = h
+      listed_later (Some t) h = contains_later t s (from (a + 1) n) h
 
   abbrev Before : Squeeze → Squeeze → Type 0
   Before s t = s.white_to_move < t.white_to_move
 
   all_before : (a n : ℕ) → AllPairs Before (from a n)
-  all_before a zero = λ i j d first within. absurd (none j within)
+  all_before a zero = λ i j d first within. absurd (none_below_zero j within)
     where
-      none : (j : ℕ) → j < 0 → ⊥
-      none j h = omega arith
+      none_below_zero : (j : ℕ) → j < 0 → ⊥
+      none_below_zero j h = omega arith
   all_before a (suc n) =
       pairs_here_and_later (squeeze_at groups codes a) refl (all_before (a + 1) n)
     where

@@ -62,8 +62,8 @@ module _ (rules : RuleLines) (value : Board → Value) (kept : Colour → List �
             ∙ sym (append_assoc first (classes ++ line.0) (10 ∷ [])),
       )
 
-  both : (first ++ classes) ++ last ≡ whole
-  both = append_assoc first classes last
+  parts_are_whole : (first ++ classes) ++ last ≡ whole
+  parts_are_whole = append_assoc first classes last
 
   -- something stopped behind whole lines
   front_written : (fault : ReportFault) (old new : SinkTold)
@@ -117,7 +117,8 @@ module _ (rules : RuleLines) (value : Board → Value) (kept : Colour → List �
     classes_failed new failed =
         failed_whole old new
         (failed_before (first ++ classes) last whole old new
-        (failed_behind first classes (first ++ classes) old mid new took refl failed) both)
+        (failed_behind first classes (first ++ classes) old mid new took refl failed)
+        parts_are_whole)
 
     module _ (then : SinkTold) (more : TookText classes mid then) where
       took_both : TookText (first ++ classes) old then
@@ -128,7 +129,8 @@ module _ (rules : RuleLines) (value : Board → Value) (kept : Colour → List �
           → WritesReport rules value kept (Err Output) old new
       last_failed new failed =
           failed_whole old new
-          (failed_behind (first ++ classes) last whole old then new took_both both failed)
+          (failed_behind (first ++ classes) last whole old then new took_both parts_are_whole
+          failed)
 
       -- all of it was written
       pub all_written : (new : SinkTold) (totals : Totals) → totals ≡ totals_of rules value kept
@@ -138,7 +140,8 @@ module _ (rules : RuleLines) (value : Board → Value) (kept : Colour → List �
         text = whole;
         rest = [];
         lines = whole_lines;
-        wrote = took_behind (first ++ classes) last whole old then new took_both both end;
+        wrote = took_behind (first ++ classes) last whole old then new took_both parts_are_whole
+            end;
         begins = append-nil whole;
         finishes = (is, refl);
       }

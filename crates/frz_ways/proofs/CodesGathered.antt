@@ -131,16 +131,17 @@ gathered_is side size (a ∷ arms) (c ∷ cs) all apart for =
     ∙ ap (λ (zs : List ℕ). arm_code side (put_code a.next c kept) a ∷ zs) (rest ∙ sym others)
 
 -- the codes that were read for the moves of a number are those of some codes that may be read
-pub gather : (known : Option (List ℕ)) (side : Colour) (size : ℕ) (arms : List (Arm Step ℕ Value))
+pub gathered_codes_may_be_read : (known : Option (List ℕ)) (side : Colour) (size : ℕ)
+    (arms : List (Arm Step ℕ Value))
     (cs : List ℕ) → All (λ a. IsWithin size a.next) arms → AreApart arms
     → AreCodesFor side arms cs → IfSome known (λ kept. cs ≡ map (arm_code side kept) arms)
     → (kept : List ℕ) × MayRead known size kept × (cs ≡ map (arm_code side kept) arms)
-gather None side size arms cs all apart for h = (
+gathered_codes_may_be_read None side size arms cs all apart for h = (
   gathered size arms cs,
   (gathered_long size arms cs, gathered_small side size arms cs all for),
   gathered_is side size arms cs all apart for,
 )
-gather (Some told) side size arms cs all apart for h = (told, refl, h)
+gathered_codes_may_be_read (Some told) side size arms cs all apart for h = (told, refl, h)
 
 -- the same where they were read
 pub gather_read : {T : Type 0} (result : Result T StoreFault) (known : Option (List ℕ))
@@ -151,7 +152,7 @@ pub gather_read : {T : Type 0} (result : Result T StoreFault) (known : Option (L
     → OnOk result ((kept : List ℕ) × MayRead known size kept
     × (cs ≡ map (arm_code side kept) arms))
 gather_read (Ok x) known side size arms cs all apart for h =
-    gather known side size arms cs all apart for h
+    gathered_codes_may_be_read known side size arms cs all apart for h
 gather_read (Err fault) known side size arms cs all apart for h = tt
 
 -- one move more

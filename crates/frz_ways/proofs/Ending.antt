@@ -57,17 +57,17 @@ of_line arms more (Some p) there rest next h = λ refused place left e.
     (there place (ap Some at_it), omega (arith, few))
 of_line arms more None there rest next h = of_next arms more next h
 
-replies : (arms : List (Arm Step ℕ Value)) (more : ℕ) (left : List ℕ)
+read_is_reply : (arms : List (Arm Step ℕ Value)) (more : ℕ) (left : List ℕ)
     → IsReply arms more (reads arms more left)
-replies arms zero left = λ refused place rest e. absurd (cc)
-replies arms (suc more) [] = λ refused place rest e. absurd (cc)
-replies arms (suc more) (b ∷ bs) =
+read_is_reply arms zero left = λ refused place rest e. absurd (cc)
+read_is_reply arms (suc more) [] = λ refused place rest e. absurd (cc)
+read_is_reply arms (suc more) (b ∷ bs) =
     elim (cases_Bool (nat_lt MOST_LENGTH (line_length (b ∷ bs)))) [
       | inl t ↦ rw t (λ refused place rest e. absurd (cc))
       | inr f ↦ rw f (of_line arms more (place_said arms (first_line (b ∷ bs)))
           (λ place e. place_there arms (only_of (words (first_line (b ∷ bs)))) place e)
           (behind_line (b ∷ bs)) (reads arms more (behind_line (b ∷ bs)))
-          (replies arms more (behind_line (b ∷ bs))))
+          (read_is_reply arms more (behind_line (b ∷ bs))))
     ]
 
 counted_there : (arms : List (Arm Step ℕ Value)) (k place : ℕ) (a : Arm Step ℕ Value)
@@ -83,7 +83,8 @@ pub reads_input : (arena : Arena Step ℕ Value)
     (λ p (s : Input). reads (arena.arms p.1) s.more s.left)
 reads_input arena = record {
   there = λ p mover s t refused place going e.
-      (let r = (replies (arena.arms p.1) s.more s.left refused place t e).0 in
+      (let r = (read_is_reply (arena.arms p.1) s.more s.left refused place t e).0 in
       counted_there (arena.arms p.1) (suc p.0) place r.0 r.1);
-  less = λ p s t refused place e. (replies (arena.arms p.1) s.more s.left refused place t e).1;
+  less = λ p s t refused place e.
+      (read_is_reply (arena.arms p.1) s.more s.left refused place t e).1;
 }

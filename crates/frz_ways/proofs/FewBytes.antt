@@ -51,9 +51,9 @@ few_said bytes more rest l (Some place) next h = omega (arith, l)
 few_said bytes more rest l None next h =
     few_refused bytes (suc more) next (few_behind bytes (length rest) more l next h)
 
-dropped : (n : ℕ) (left : List ℕ) → n ≤ MOST_LENGTH + 1
+few_bytes_dropped : (n : ℕ) (left : List ℕ) → n ≤ MOST_LENGTH + 1
     → length left ≤ length (drop n left) + (MOST_LENGTH + 1)
-dropped n left l = let d = length-drop n left in omega (arith, d, l)
+few_bytes_dropped n left l = let d = length-drop n left in omega (arith, d, l)
 
 few_read : (arms : List (Arm Step ℕ Value)) (more : ℕ) (left : List ℕ)
     → TakesFew (length left) more (reads arms more left)
@@ -61,11 +61,12 @@ few_read arms zero left = omega arith
 few_read arms (suc more) [] = omega arith
 few_read arms (suc more) (b ∷ bs) =
     elim (cases_Bool (nat_lt MOST_LENGTH (line_length (b ∷ bs)))) [
-      | inl t ↦ rw t (let d = dropped (MOST_LENGTH + 1) (b ∷ bs) (omega arith) in omega (arith, d))
+      | inl t ↦ rw t (let d = few_bytes_dropped (MOST_LENGTH + 1) (b ∷ bs) (omega arith) in
+      omega (arith, d))
       | inr f ↦ rw f (
           let short : line_length (b ∷ bs) ≤ MOST_LENGTH = grind (arith, nat_tests, f) in
           few_said (length (b ∷ bs)) more (behind_line (b ∷ bs))
-          (dropped (line_length (b ∷ bs) + 1) (b ∷ bs) (omega (arith, short)))
+          (few_bytes_dropped (line_length (b ∷ bs) + 1) (b ∷ bs) (omega (arith, short)))
           (place_said arms (first_line (b ∷ bs))) (reads arms more (behind_line (b ∷ bs)))
           (few_read arms more (behind_line (b ∷ bs))))
     ]

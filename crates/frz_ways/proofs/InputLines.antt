@@ -18,9 +18,9 @@ use Rattle.frz_ways.specs.Reading.{Input, Halt, halted, line_length, first_line,
 use Rattle.frz_ways.proofs.Taking.{ends_itself, ends_dropped, ends_on}
 
 -- how long a line is that goes on behind these bytes
-pub longer : (bytes rest : List ℕ) → IsOneLine bytes
+pub line_length_adds_up : (bytes rest : List ℕ) → IsOneLine bytes
     → line_length (bytes ++ rest) ≡ length bytes + line_length rest
-longer bytes rest one =
+line_length_adds_up bytes rest one =
     let p : ℕ → Bool = λ b. not (is_line_feed b) in
     prefix_len-append p bytes rest
     ∙ ap (λ (b : Bool). cond b (length bytes + line_length rest) (line_length bytes))
@@ -39,7 +39,7 @@ one_byte byte h = rw h refl
 pub one_more : (bytes : List ℕ) (byte : ℕ) → IsOneLine bytes → (byte ≡ 10 → ⊥)
     → IsOneLine (bytes ++ byte ∷ [])
 one_more bytes byte one h =
-    longer bytes (byte ∷ []) one
+    line_length_adds_up bytes (byte ∷ []) one
     ∙ (ap (λ n. length bytes + n) (one_byte byte (not_feed byte h))
     ∙ sym (length-append bytes (byte ∷ [])))
 
@@ -68,7 +68,7 @@ pub reads_line : (arms : List (Arm Step ℕ Value)) (more : ℕ) (line tail : Li
     → reads arms (suc more) (line ++ tail) ≡ reply_or (place_said arms line)
     (record { left = drop 1 tail; more = more }) (reads arms more (drop 1 tail))
 reads_line arms more line tail one none few some =
-    let long : line_length (line ++ tail) ≡ length line = longer line tail one
+    let long : line_length (line ++ tail) ≡ length line = line_length_adds_up line tail one
     ∙ (ap (λ n. length line + n) none ∙ omega arith) in
     let first : first_line (line ++ tail) ≡ line = ap (λ n. take n (line ++ tail)) long
     ∙ take-append_seam line tail in
@@ -92,7 +92,7 @@ pub reads_too_long : (arms : List (Arm Step ℕ Value)) (more : ℕ) (bytes rest
     (record { left = rest; more = suc more })
 reads_too_long arms more bytes rest one many =
     let long : MOST_LENGTH < line_length (bytes ++ rest) =
-    (let l = longer bytes rest one in omega (arith, l, many)) in
+    (let l = line_length_adds_up bytes rest one in omega (arith, l, many)) in
     let behind : drop (MOST_LENGTH + 1) (bytes ++ rest) ≡ rest = ap (λ n. drop n (bytes ++ rest))
     (sym many ∙ omega arith) ∙ drop-append-add bytes rest 0 in
     reads_long arms more (bytes ++ rest) (not_empty bytes rest (omega (arith, many))) long
@@ -121,7 +121,7 @@ module _ (arms : List (Arm Step ℕ Value)) where
       → length part ≤ MOST_LENGTH → part ++ rest ≢ []
       → EndsWith (left_by (reads arms (suc more) (part ++ rest))) rest
   part_by more part rest ih one few some =
-      let long = longer part rest one in
+      let long = line_length_adds_up part rest one in
       let left = part ++ rest in
       elim (cases_Bool (nat_lt MOST_LENGTH (line_length left))) [
         | inl t ↦ (

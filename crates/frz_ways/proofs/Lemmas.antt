@@ -2,7 +2,7 @@
 pub use Rattle.frz_ways.proofs.Alternating.{turn_after}
 pub use Rattle.frz_ways.proofs.MoveChosen.{at_in}
 pub use Rattle.frz_ways.proofs.WayFinished.{answer_input, answer_kind, ended_wrote, same_input}
-pub use Rattle.frz_ways.proofs.CodesGathered.{gather}
+pub use Rattle.frz_ways.proofs.CodesGathered.{gathered_codes_may_be_read}
 pub use Rattle.frz_ways.proofs.Goings.{way_front}
 pub use Rattle.frz_ways.proofs.CodesKept.{by_table, may_before}
 pub use Rattle.frz_ways.proofs.WaySoFar.{stays_on}

@@ -211,11 +211,11 @@ stays_on old now next first more h k = λ e.
 module _ {arms : List (Arm Step ℕ Value)} {old now : Reader} {source mid : SourceTold}
     {out taken : SinkTold} (far : HearsOn arms old now source mid out taken) where
   -- what the next line gives, behind what was refused
-  behind : (next : Reader) (bytes rest : List ℕ) (answer : Answer Input Halt)
+  next_line_behind_refused : (next : Reader) (bytes rest : List ℕ) (answer : Answer Input Halt)
       → StaysEnded now next bytes → MayFollow next rest
       → reads arms now.more (bytes ++ rest) ≡ answer
       → reads arms old.more ((far.bytes ++ bytes) ++ rest) ≡ refuse far.refused answer
-  behind next bytes rest answer stays may is =
+  next_line_behind_refused next bytes rest answer stays may is =
       ap (λ (l : List ℕ). reads arms old.more l) (append_assoc far.bytes bytes rest)
       ∙ (far.on (bytes ++ rest) (λ e. let s = stays e in both_empty bytes rest s.0 (may s.1))
       ∙ ap (refuse far.refused) is)
@@ -248,7 +248,8 @@ module _ {arms : List (Arm Step ℕ Value)} {old now : Reader} {source mid : Sou
         heard_with far.refused h far.wrote
         (let a = far.few in let b = h.fewer in omega (arith, a, b)) (λ f e. absurd (cc))
         (λ rest may. let last : Input = record { left = rest; more = next.more } in
-        behind next h.bytes rest (Stop (halted why) last) h.stays may (h.heard arms rest may)
+        next_line_behind_refused next h.bytes rest (Stop (halted why) last) h.stays may
+        (h.heard arms rest may)
         ∙ refuse_stop far.refused (halted why) last refl)
 
     -- the input failed
@@ -258,7 +259,8 @@ module _ {arms : List (Arm Step ℕ Value)} {old now : Reader} {source mid : Sou
         heard_with far.refused h far.wrote
         (let a = far.few in let b = h.fewer in omega (arith, a, b)) (λ f e. inl (let x = e in cc))
         (λ rest may. let later = reads arms now.more (h.bytes ++ rest) in
-        (later, behind next h.bytes rest later h.stays may refl, h.heard arms rest may))
+        (later, next_line_behind_refused next h.bytes rest later h.stays may refl,
+        h.heard arms rest may))
 
     -- the line says a move
     pub hears_reply : {place : ℕ} → place_said arms line ≡ Some place
@@ -268,7 +270,7 @@ module _ {arms : List (Arm Step ℕ Value)} {old now : Reader} {source mid : Sou
         heard_with far.refused h far.wrote
         (let a = far.few in let b = h.fewer in omega (arith, a, b)) (λ f e. absurd (cc))
         (λ rest may. let last : Input = record { left = rest; more = next.more } in
-        behind next h.bytes rest (Reply 0 place last) h.stays may
+        next_line_behind_refused next h.bytes rest (Reply 0 place last) h.stays may
         (h.heard arms rest may
         ∙ ap (λ (o : Option ℕ). reply_or o last (reads arms next.more rest)) said)
         ∙ refuse_reply far.refused place last)
@@ -278,7 +280,8 @@ module _ {arms : List (Arm Step ℕ Value)} {old now : Reader} {source mid : Sou
         → reads arms old.more ((far.bytes ++ h.bytes) ++ rest)
         ≡ refuse (suc far.refused) (reads arms next.more rest)
     refused_here none h rest may =
-        behind next h.bytes rest (refuse_one (reads arms next.more rest)) h.stays may
+        next_line_behind_refused next h.bytes rest (refuse_one (reads arms next.more rest)) h.stays
+        may
         (h.heard arms rest may
         ∙ ap (λ (o : Option ℕ). reply_or o (record { left = rest; more = next.more })
         (reads arms next.more rest)) none)

@@ -112,13 +112,13 @@ seen_lawful : (mover : Colour) (arms : List (Arm Step ℕ Value)) (cs : List ℕ
 seen_lawful mover [] cs e some = absurd (some refl)
 seen_lawful mover (a ∷ arms) [] e some = absurd (omega arith)
 seen_lawful mover (a ∷ arms) (c ∷ cs) e some = record {
-  goes_on = λ p turn. goes (seen_arms arms cs) p turn;
+  goes_on = λ p turn. going_node_has_moves (seen_arms arms cs) p turn;
   opposed = λ v side good. absurd (cc);
 } where
-  goes : (more : List (Arm Step (Option ℕ) Value)) (p : Option ℕ) (turn : Colour)
+  going_node_has_moves : (more : List (Arm Step (Option ℕ) Value)) (p : Option ℕ) (turn : Colour)
       → seen_node (Going mover) p ≡ Going turn → seen_arms_at (a ∷ arms) (c ∷ cs) p ≢ []
-  goes more None turn e = λ h. absurd (cc)
-  goes more (Some d) turn e = absurd (cc)
+  going_node_has_moves more None turn e = λ h. absurd (cc)
+  going_node_has_moves more (Some d) turn e = absurd (cc)
 
 -- what is found among the elements is found among their images
 before_map : {X Y : Type 0} (f : X → Y) (test : X → Bool) (seen : Y → Bool)

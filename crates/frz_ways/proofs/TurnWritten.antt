@@ -201,9 +201,9 @@ module _ (one : AsksForOne) (fills : FillsLocal)
   abbrev IsDue : Due → Type 0
   IsDue due = due ≡ due_at arena opponent side cursor arms cs
 
-  standing : (due : Due) → IsDue due → (kept : ℕ → List ℕ) → IsReadBy kept
+  stage_stands_as_due : (due : Due) → IsDue due → (kept : ℕ → List ℕ) → IsReadBy kept
       → Stands arena opponent side kept cursor (stage_told (cursor.played, cursor.number) cursor.code due)
-  standing due e kept same =
+  stage_stands_as_due due e kept same =
       way_stage fills arena size finite opponent side cursor arms cs kept are same due e
 
   -- the sink failed within the opening
@@ -228,7 +228,7 @@ module _ (one : AsksForOne) (fills : FillsLocal)
           read.1,
           λ kept same.
               opening_failed arena opponent side kept cursor due reader
-              (standing due e kept (read_by known many read kept same)),
+              (stage_stands_as_due due e kept (read_by known many read kept same)),
         ),
       )
 
@@ -254,7 +254,7 @@ module _ (one : AsksForOne) (fills : FillsLocal)
             (subst (λ (z : Result Turn PlayFault). TailBy arena opponent side kept cursor old old []
             (end_text f) z) (sym is)
             (over_tail arena opponent side kept cursor old (end_text f) f answer
-            (λ agrees. standing due e kept same agrees ∙ stops) refl
+            (λ agrees. stage_stands_as_due due e kept same agrees ∙ stops) refl
             finishes));
       }
 
@@ -278,7 +278,7 @@ module _ (one : AsksForOne) (fills : FillsLocal)
         [] z) (sym is)
         (over_tail arena opponent side kept cursor old [] (Wrong (cursor.played, cursor.number) cursor.code
         given) (Err (wrong_at side cursor given))
-        (λ agrees. standing (dues.Wrong given) e kept same agrees) refl
+        (λ agrees. stage_stands_as_due (dues.Wrong given) e kept same agrees) refl
         (refl, refl, refl)));
   }
 
@@ -296,10 +296,10 @@ module _ (one : AsksForOne) (fills : FillsLocal)
       over_wrote due e f stops old new (Err (plays.Line faults.Output)) result source left out taken
       unread a.0 lines (by_answers (Over last) (end_text f) result out taken (inr a)) tt
 
-  untouched : (fault : PlayFault) (result : Result Turn PlayFault) (out taken : SinkTold)
+  fault_wrote_nothing : (fault : PlayFault) (result : Result Turn PlayFault) (out taken : SinkTold)
       → WroteBy {T = Turn} (Err fault) [] out out → result ≡ Err fault → taken ≡ out
       → WroteBy result [] out taken
-  untouched fault result out taken w e same =
+  fault_wrote_nothing fault result out taken w e same =
       subst (λ (z : Result Turn PlayFault). WroteBy z [] out taken) (sym e)
       (subst (λ (z : SinkTold). WroteBy {T = Turn} (Err fault) [] out z) (sym same) w)
 
@@ -338,7 +338,7 @@ module _ (one : AsksForOne) (fills : FillsLocal)
       hears.wrote wrote) (λ kept same.
       subst (λ (z : Result Turn PlayFault). TailBy arena opponent side kept cursor old new hears.bytes
       text z) (sym is) (stop_tail arena opponent side m kept cursor old new own
-      (standing (dues.Ply m) e kept same) arms are
+      (stage_stands_as_due (dues.Ply m) e kept same) arms are
       source left out between Ended hears answer finishes))
 
   ended_wrote : (m : Colour) → IsDue (dues.Ply m) → by_codes opponent (same_colour m side) ≡ false
@@ -374,7 +374,7 @@ module _ (one : AsksForOne) (fills : FillsLocal)
       (by_answers (turn_of h.0.mv h.0.next (get_or cs place 0)) (moved_text (codes "reply ") h.0) result
       between taken h.2)) (λ kept same.
       reply_tail arena opponent side m kept cursor old new own
-      (standing (dues.Ply m) e kept same) arms cs are
+      (stage_stands_as_due (dues.Ply m) e kept same) arms cs are
       same source left out between taken place hears h.0 h.1 result h.2)
   reply_wrote m e own old new (Ok (heard.Stop Ended)) result source left out between taken hears h =
       ended_wrote m e own old new result source left out between taken hears h
@@ -390,7 +390,7 @@ module _ (one : AsksForOne) (fills : FillsLocal)
       (subst (λ (t : List ℕ). TailBy arena opponent side kept cursor old new hears.bytes t
       (Err (plays.Limit limit))) (append-nil text)
       (stop_tail arena opponent side m kept cursor old new own
-      (standing (dues.Ply m) e kept same) arms are
+      (stage_stands_as_due (dues.Ply m) e kept same) arms are
       source left out between (Limit limit) hears (Err (plays.Limit limit)) (refl, refl, refl))))
   reply_wrote m e own old new (Err fault) result source left out between taken hears h =
       let text = refused_text hears.refused in
@@ -401,7 +401,8 @@ module _ (one : AsksForOne) (fills : FillsLocal)
       (λ kept same.
       subst (λ (z : Result Turn PlayFault). TailBy arena opponent side kept cursor old new hears.bytes
       text z) (sym h.0)
-      (fault_tail arena opponent side m kept cursor own (standing (dues.Ply m) e kept same) fault
+      (fault_tail arena opponent side m kept cursor own
+      (stage_stands_as_due (dues.Ply m) e kept same) fault
       (hears.fails fault refl) old new arms are source left out between hears))
 
   own_wrote : (m : Colour) → IsDue (dues.Ply m) → by_codes opponent (same_colour m side) ≡ true
@@ -424,7 +425,7 @@ module _ (one : AsksForOne) (fills : FillsLocal)
             subst (λ (z : Reader). TailBy arena opponent side kept cursor old z [] text result)
             (sym unread.0)
             (own_tail one arena size finite opponent side m cursor old arms cs kept own are same
-            (standing (dues.Ply m) e kept same) place h.1 a h.2 h.3.1 result out taken
+            (stage_stands_as_due (dues.Ply m) e kept same) place h.1 a h.2 h.3.1 result out taken
             h.3.2);
       }
 
@@ -444,11 +445,13 @@ module _ (one : AsksForOne) (fills : FillsLocal)
       → Tail IsReadBy arena opponent side cursor old new result source left out taken
   tail_wrote (dues.Wrong given) e old new result source left out taken h =
       wrong_wrote given e old new result source left out taken h.0 h.1.0
-      (untouched (wrong_at side cursor given) result out taken (took_nothing out) h.1.0 h.1.1)
+      (fault_wrote_nothing (wrong_at side cursor given) result out taken (took_nothing out) h.1.0
+      h.1.1)
   tail_wrote dues.NoBound e old new result source left out taken h =
       over_wrote dues.NoBound e NoBound refl old new (Err (plays.Line faults.NoBound))
       result source left out taken h.0 h.1.0 (inl refl)
-      (untouched (plays.Line faults.NoBound) result out taken (took_nothing out) h.1.0 h.1.1)
+      (fault_wrote_nothing (plays.Line faults.NoBound) result out taken (took_nothing out) h.1.0
+      h.1.1)
       (refl, refl, refl)
   tail_wrote (dues.Mate m) e old new result source left out taken h =
       ends_wrote (dues.Mate m) e (Mated m) refl old new ends.Mate result source left out
@@ -483,7 +486,7 @@ module _ (one : AsksForOne) (fills : FillsLocal)
           read.1,
           λ kept same.
               opened_tail arena opponent side kept cursor due old new t.bytes t.text result
-              (standing due e kept (read_by known many read kept same))
+              (stage_stands_as_due due e kept (read_by known many read kept same))
               (t.goes kept (read_by known many read kept same)),
         ),
       )

@@ -105,17 +105,18 @@ module _ {arena : Arena Step ℕ Value} {size : ℕ} (finite : IsFinite arena si
   abbrev IsDue : Due → Type 0
   IsDue due = due ≡ due_at arena opponent side cursor arms cs
 
-  facts : (m : Colour) → IsDue (dues.Ply m)
+  ply_is_due : (m : Colour) → IsDue (dues.Ply m)
       → PlyDue (cursor.played == 0) (late_by opponent cursor.played) cursor.code
       (node_code side (arena.node cursor.number) (free_among arms cs) cs) (arena.node cursor.number) m
-  facts m e = ply_due (cursor.played == 0) (late_by opponent cursor.played) cursor.code
+  ply_is_due m e = ply_due (cursor.played == 0) (late_by opponent cursor.played) cursor.code
       (node_code side (arena.node cursor.number) (free_among arms cs) cs) (arena.node cursor.number) m
       (sym e)
 
-  agreed : (m : Colour) → IsDue (dues.Ply m)
+  code_agrees_with_moves : (m : Colour) → IsDue (dues.Ply m)
       → cursor.code ≡ node_code side (nodes.Going m) (free_among arms cs) cs
-  agreed m e = subst (λ (z : Node). cursor.code ≡ node_code side z (free_among arms cs) cs)
-      (facts m e).goes (facts m e).agrees
+  code_agrees_with_moves m e = subst
+      (λ (z : Node). cursor.code ≡ node_code side z (free_among arms cs) cs)
+      (ply_is_due m e).goes (ply_is_due m e).agrees
 
   inside_size : (place : ℕ) (a : Arm Step ℕ Value) → slice_get arms place ≡ Some a → (n : ℕ)
       → a.next ≡ Inside n → n < size
@@ -135,8 +136,8 @@ module _ {arena : Arena Step ℕ Value} {size : ℕ} (finite : IsFinite arena si
       → IsFound has_code (is_win cursor.code) cursor.code (choices_by (same_colour m side) arms cs)
       place x → IsNextCode cursor.code (get_or cs place 0)
   next_code m e place x found =
-      let d = facts m e in
-      let next = next_code_is side m cursor.code arms cs many (agreed m e)
+      let d = ply_is_due m e in
+      let next = next_code_is side m cursor.code arms cs many (code_agrees_with_moves m e)
       (never_failing cursor.played cursor.code stands d.starts) place x found in
       let code = (found_code (same_colour m side) arms cs (is_win cursor.code) cursor.code place x many
       found).1 in
@@ -149,12 +150,13 @@ module _ {arena : Arena Step ℕ Value} {size : ℕ} (finite : IsFinite arena si
       → is_failure (get_or cs place 0) ≡ false
   reply_code_stands m e found place a there =
       let own = not_own opponent (same_colour m side) found in
-      let d = facts m e in
+      let d = ply_is_due m e in
       let within = slice_get_within arms place a there in
       let other : node_code side (nodes.Going m) (free_among arms cs) cs ≡ other_code cs =
       rw own refl in
       let whole : is_failure (other_code cs) ≡ false = subst (λ c. is_failure c ≡ false)
-      (agreed m e ∙ other) (never_failing cursor.played cursor.code stands d.starts) in
+      (code_agrees_with_moves m e ∙ other)
+      (never_failing cursor.played cursor.code stands d.starts) in
       other_stands cs place whole (omega (arith, within, many))
 
   same_other : (m : Colour) → same_colour m side ≡ true → same_colour (other_of m) side ≡ false
@@ -183,7 +185,7 @@ module _ {arena : Arena Step ℕ Value} {size : ℕ} (finite : IsFinite arena si
       → a.next ≡ Inside n → session_left arena side more n < session_left arena side more
       cursor.number
   left_own alternates m e own more place a there n leads =
-      let d = facts m e in
+      let d = ply_is_due m e in
       let among : Contains (arena.arms cursor.number) a = subst
       (λ (z : List (Arm Step ℕ Value)). Contains z a) are (at_in arms place a there) in
       let here = own_one m (arena.node cursor.number) d.goes own in
@@ -204,7 +206,7 @@ module _ {arena : Arena Step ℕ Value} {size : ℕ} (finite : IsFinite arena si
       → LeavesLess o arena side cursor old new n (get_or cs place 0)
   less_by_codes alternates opponents.Codes is m e own old new same place a there next n leads =
       let early = subst (λ (z : Opponent). ((cursor.code == 1) && late_by z cursor.played) ≡ false)
-      (sym is) (facts m e).early in
+      (sym is) (ply_is_due m e).early in
       (next, still_early cursor.code cursor.played LINE_LIMIT early)
   less_by_codes alternates opponents.Input is m e own old new same place a there next n leads =
       subst (λ k. session_left arena side k n < session_left arena side old.more cursor.number)

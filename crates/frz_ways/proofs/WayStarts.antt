@@ -90,12 +90,12 @@ module _ (known : Option (List ℕ)) (size : ℕ) (opponent : Opponent) (rules :
       × TellsWay opponent rules side codes p whole bytes text result before now))
 
   -- where nothing was written or taken
-  untouched : (source : SourceTold) (out : SinkTold) (before now : Spent)
+  nothing_written_nothing_taken : (source : SourceTold) (out : SinkTold) (before now : Spent)
       (result : Result WayEnd PlayFault) → WroteBy result [] out out
       → ((codes : ℕ → List ℕ) (whole : List ℕ)
       → TellsWay opponent rules side codes p whole [] [] result before now)
       → WroteWay result source source out out before now
-  untouched source out before now result wrote tells =
+  nothing_written_nothing_taken source out before now result wrote tells =
       let r = some_rest source ⊥ (λ e. absurd e) in (
         [],
         [],
@@ -114,14 +114,16 @@ module _ (known : Option (List ℕ)) (size : ℕ) (opponent : Opponent) (rules :
       → (Member rules.groups p → ⊥)
       → WroteWay (Err (plays.Line faults.Outside)) source source out out before before
   nothing_told source out before none =
-      untouched source out before before (Err (plays.Line faults.Outside)) (took_nothing out)
+      nothing_written_nothing_taken source out before before (Err (plays.Line faults.Outside))
+      (took_nothing out)
       (λ codes whole member plies end last w. absurd (none member))
 
-  unread : (source : SourceTold) (out : SinkTold) (before now : Spent) → Spends 1 0 before now
+  nothing_read_nothing_written : (source : SourceTold) (out : SinkTold) (before now : Spent)
+      → Spends 1 0 before now
       → (fault : PlayFault) → IsStoreFault fault → WroteBy {T = WayEnd} (Err fault) [] out out
       → WroteWay (Err fault) source source out out before now
-  unread source out before now few fault is wrote =
-      untouched source out before now (Err fault) wrote
+  nothing_read_nothing_written source out before now few fault is wrote =
+      nothing_written_nothing_taken source out before now (Err fault) wrote
       (λ codes whole member plies end last w.
       let front = way_front (graph_by rules (value_by rules)) opponent side codes 0 (opened whole)
       last (0, Num rules.groups p) plies end w in
@@ -148,10 +150,11 @@ module _ (known : Option (List ℕ)) (size : ℕ) (opponent : Opponent) (rules :
   start_unread source out few fault (Ok end) h = absurd h
   start_unread source out {before} {now} few fault (Err f) h =
       subst (λ (z : PlayFault). WroteWay (Err z) source source out out before now) (sym h)
-      (unread source out before now few (plays.Line (fault_of fault)) (store_fault fault)
+      (nothing_read_nothing_written source out before now few (plays.Line (fault_of fault))
+      (store_fault fault)
       (store_wrote fault out))
 
-  tells : (codes : ℕ → List ℕ) (source left : SourceTold) (first last : Reader)
+  way_told_from_start : (codes : ℕ → List ℕ) (source left : SourceTold) (first last : Reader)
       (bytes text : List ℕ) (finish : Result Finish PlayFault) (before mid now : Spent)
       (start code : ℕ) → start ≡ Num rules.groups p → Spends 1 0 before mid
       → slice_index (codes 0) start ≡ code → first.more ≡ MOST_LINES → TookBytes bytes source left
@@ -159,7 +162,8 @@ module _ (known : Option (List ℕ)) (size : ℕ) (opponent : Opponent) (rules :
       → Plays (graph_by rules (value_by rules)) opponent side codes start code first last bytes text
       finish mid now → (whole : List ℕ) × MayHold source whole
       × TellsWay opponent rules side codes p whole bytes text (ended finish) before now
-  tells codes source left first last bytes text finish before mid now start code is few agrees fresh
+  way_told_from_start codes source left first last bytes text finish before mid now start code is
+      few agrees fresh
       took has plays =
       let r = some_rest left (last.ended ≡ true) has in
       let whole = bytes ++ r.0 in (
@@ -206,7 +210,8 @@ module _ (known : Option (List ℕ)) (size : ℕ) (opponent : Opponent) (rules :
         (
           from_start at_it.0 read,
           from_start_may known size at_it.0 read at_it.1 may,
-          λ codes same. tells codes source left first last bytes text finish before mid now start
+          λ codes same. way_told_from_start codes source left first last bytes text finish before
+          mid now start
               code is few (ap (λ (l : List ℕ). slice_index l start) (same 0) ∙ at_it.2) fresh took has
               (plays codes (λ k. same (suc k))),
         ),

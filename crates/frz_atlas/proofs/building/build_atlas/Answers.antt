@@ -11,7 +11,7 @@ use Rattle.frz_backs.proofs.Lemmas.{loaded_backs}
 use Rattle.frz_atlas.specs.Building.{RefusesToBuild}
 use Rattle.frz_atlas.specs.Causes.{HasAtlasCause}
 use Rattle.frz_atlas.specs.declared.fault.AtlasFault.{AtlasFault}
-use Rattle.frz_atlas.proofs.AtlasBuilt.{built, not_built, not_read, write_cause}
+use Rattle.frz_atlas.proofs.AtlasBuilt.{atlas_built, not_built, not_read, write_cause}
 use Rattle.frz_atlas.proofs.building.build_atlas.Goals as goal
 
 pub build_over-requires-clause-text : goal.build_over-requires-clause-text
@@ -66,7 +66,8 @@ pub returns-clause-built : goal.returns-clause-built
 returns-clause-built g c =
     let backs = c.in_ok-backs.ensures in
     let over = c.in_ok-build_over.ensures in
-    built c.args.text.now (map string_bytes c.args.behind.now) c.args.name.now c.in_ok-rules.rules
+    atlas_built c.args.text.now (map string_bytes c.args.behind.now) c.args.name.now
+    c.in_ok-rules.rules
     c.in_ok-rules.ensures.exact c.in_ok-backs.backs.items
     (store_of g.S.Store c.args.store.now) (store_of g.S.Store c.open_behind.new.store)
     (store_of g.S.Store c.build_over.new.store) c.args.steps.now c.open_behind.new.steps

@@ -20,7 +20,7 @@ use Rattle.frz_backs.proofs.Lemmas.{loaded_backs}
 use Rattle.frz_atlas.specs.Checking.{RefusesAtlas}
 use Rattle.frz_atlas.specs.declared.checking.Checked.{Checked}
 use Rattle.frz_atlas.specs.declared.fault.AtlasFault.{AtlasFault}
-use Rattle.frz_atlas.proofs.AtlasChecked.{back_refused, checked, not_loaded, not_opened}
+use Rattle.frz_atlas.proofs.AtlasChecked.{atlas_checked, back_refused, not_loaded, not_opened}
 use Rattle.frz_atlas.proofs.checking.check_atlas.Goals as goal
 
 pub returns-in-Err-clause-refused : goal.returns-in-Err-clause-refused
@@ -89,7 +89,8 @@ returns-in-Ok-check_kept-clause-verdict g c =
     ∙ (ap (map (λ (back : BackTable). size_of back.table.rules.groups)) c.deref.ensures.value
     ∙ (sym (map-map of_back loaded_back backs)
     ∙ ap (map of_back) (sym (loaded_backs backs)))) in
-    checked table c.args.table.now (map string_bytes c.args.behind.now) old mid c.args.steps.now
+    atlas_checked table c.args.table.now (map string_bytes c.args.behind.now) old mid
+    c.args.steps.now
     e.may_open e.quiet.unwritten.files e.asked e.calls backs
     then new c.open_behind.new.steps c.check_kept.new.steps b.opened k.asked k.calls k.steps
     b.quiet.unwritten.files e.kind e.name _ size sizes

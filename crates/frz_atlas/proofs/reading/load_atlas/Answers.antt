@@ -7,7 +7,7 @@ use Rattle.frz_backs.specs.Loaded.{link_loaded}
 use Rattle.frz_atlas.specs.Reading.{RefusesToRead}
 use Rattle.frz_atlas.specs.declared.fault.AtlasFault.{AtlasFault}
 use Rattle.frz_atlas.specs.declared.reading.LoadedAtlas.{LoadedAtlas}
-use Rattle.frz_atlas.proofs.AtlasLoaded.{back_refused, loaded, not_loaded, not_opened}
+use Rattle.frz_atlas.proofs.AtlasLoaded.{atlas_loaded, back_refused, not_loaded, not_opened}
 use Rattle.frz_atlas.proofs.reading.load_atlas.Goals as goal
 
 pub returns-in-Err-clause-refused : goal.returns-in-Err-clause-refused
@@ -39,7 +39,7 @@ returns-in-Ok-load-clause-loaded g c =
     let e = c.in-Ok.ensures in
     let b = c.in_ok-backs.ensures in
     let k = c.in-Ok-load.ensures in
-    loaded _ c.args.table.now (map string_bytes c.args.behind.now)
+    atlas_loaded _ c.args.table.now (map string_bytes c.args.behind.now)
     (store_of g.S.Store c.args.store.now) (store_of g.S.Store c.open_kind.new.store)
     (store_of g.S.Store c.load_behind.new.store) (store_of g.S.Store c.load.new.store)
     e.may_open e.quiet.unwritten.files b.quiet.unwritten.files e.asked e.calls e.kind e.name

@@ -8,7 +8,7 @@ use Rattle.frz_chain.specs.Causes.{HasChainCause}
 use Rattle.frz_chain.specs.Chains.{RefusesToChain}
 use Rattle.frz_chain.specs.FileOn.{loaded_back}
 use Rattle.frz_chain.specs.declared.fault.ChainFault.{ChainFault}
-use Rattle.frz_chain.proofs.Chained.{chained, not_chained, not_read, write_cause}
+use Rattle.frz_chain.proofs.Chained.{built_over_back, not_chained, not_read, write_cause}
 use Rattle.frz_chain.proofs.building.build_chain.Goals as goal
 
 pub build_over-requires-clause-text : goal.build_over-requires-clause-text
@@ -62,7 +62,7 @@ returns-clause-built g c =
     let new = store_of g.S.Store c.build_over.new.store in
     let back = c.in_ok-back.ensures in
     let over = c.in_ok-build_over.ensures in
-    chained c.args.text.now c.args.back.now c.args.name.now c.in_ok-rules.rules
+    built_over_back c.args.text.now c.args.back.now c.args.name.now c.in_ok-rules.rules
     c.in_ok-rules.ensures.exact (loaded_back c.in_ok-back.back) old mid new
     c.args.steps.now c.open_back.new.steps c.build_over.new.steps back.quiet back.cause back.opened
     over.cost over.asked over.calls c.requires c.in_ok-build_over.field-0 over.size over.built

@@ -3,7 +3,7 @@ use Rattle.frz_sets.specs.Sets.{size_of}
 use Rattle.frz_game.specs.Games.{graph_by}
 use Rattle.frz_game.proofs.Lemmas.{table_exact}
 use Rattle.frz_arena.proofs.Lemmas.{bounds_are_codes}
-use Rattle.frz_reasons.proofs.Quickest.{longest, soonest}
+use Rattle.frz_reasons.proofs.Quickest.{opponent_plays_quickest, side_holds_out_longest}
 use Rattle.frz_reasons.proofs.laws.quickest.Goals as goal
 
 pub returns-clause-opponent : goal.returns-clause-opponent
@@ -11,7 +11,7 @@ returns-clause-opponent c = λ rules value side codes table number failing a pla
     let arena = graph_by rules value in
     let lawful = c.numbered.ensures.graph_lawful rules value in
     let entry : ℕ → ℕ = λ k. slice_index codes k in
-    soonest arena side codes
+    opponent_plays_quickest arena side codes
     (bounds_are_codes arena side entry (c.exact_codes.ensures arena lawful side
     (size_of rules.groups) (c.numbered.ensures.graph_numbered rules value) codes
     (table_exact rules value side codes table))) number
@@ -23,7 +23,7 @@ returns-clause-own c = λ rules value side codes table number failing a played g
     let arena = graph_by rules value in
     let lawful = c.numbered.ensures.graph_lawful rules value in
     let entry : ℕ → ℕ = λ k. slice_index codes k in
-    longest arena side codes
+    side_holds_out_longest arena side codes
     (bounds_are_codes arena side entry (c.exact_codes.ensures arena lawful side
     (size_of rules.groups) (c.numbered.ensures.graph_numbered rules value) codes
     (table_exact rules value side codes table))) number

@@ -4,7 +4,7 @@ use Rattle.std.proofs.lemmas.List.{with_items_is}
 use Rattle.frz_premises.specs.declared.trial.Trial.{Trial}
 use Rattle.frz_backs.specs.Loaded.{link_loaded}
 use Rattle.frz_premises.specs.Saying.{says_as_much}
-use Rattle.frz_premises.proofs.Trying.{needs_here, none_by, noted, said_heard, some_by, stays_heard}
+use Rattle.frz_premises.proofs.Trying.{needs_here, none_by, noted_trial_is_tried, said_heard, some_by, stays_heard}
 use Rattle.frz_premises.proofs.trial.Trial.note.Goals as goal
 use Rattle.frz_premises.proofs.trial.Trial.note.Goals.{else-is_none-via-then-is_none+else-is_none-2, else-is_none-via-else-is_none}
 
@@ -23,7 +23,7 @@ returns-then-not-said c groups line qs is tried =
     let long : length ws ≡ length backs =
     omega (arith, c.requires.many, ap length c.deref_mut.ensures.value) in
     let items : new.says.items ≡ ws = with_items_is old.says ws (omega (arith, c.requires.many)) in
-    noted backs line qs q old new groups tried refl refl (ap length items ∙ long)
+    noted_trial_is_tried backs line qs q old new groups tried refl refl (ap length items ∙ long)
     (λ asked heard. needs_here backs line qs q old new c.args.value is heard
     (none_by old.need c.is_none-then-is_none.result c.is_none-then-is_none.ensures
     c.if-is_none-2.true)
@@ -45,7 +45,7 @@ returns-else-not-said c groups line qs is tried =
     let long : length ws ≡ length backs =
     omega (arith, c.requires.many, ap length c.deref_mut.ensures.value) in
     let items : new.says.items ≡ ws = with_items_is old.says ws (omega (arith, c.requires.many)) in
-    noted backs line qs q old new groups tried refl refl (ap length items ∙ long)
+    noted_trial_is_tried backs line qs q old new groups tried refl refl (ap length items ∙ long)
     (λ asked heard. said_heard backs line qs q old new c.args.value is heard
     (none_by old.need c.is_none-then-is_none.result c.is_none-then-is_none.ensures
     c.if-is_none-2.true) refl
@@ -72,10 +72,10 @@ returns-else-is_none c groups line qs is tried =
       | else-is_none-via-then-is_none+else-is_none-2 w ↦
           (let first = some_by old.need w.is_none-then-is_none.result
           w.is_none-then-is_none.ensures w.if-is_none-2.false in
-          noted backs line qs q old new groups tried refl refl c.requires.many
+          noted_trial_is_tried backs line qs q old new groups tried refl refl c.requires.many
           (λ asked heard. stays_heard backs line qs q old new heard first.0 first.1 refl))
       | else-is_none-via-else-is_none w ↦
           (let some = some_by old.settled c.is_none.result c.is_none.ensures w.if-is_none.false in
-          noted backs line qs q old new groups tried refl refl c.requires.many
+          noted_trial_is_tried backs line qs q old new groups tried refl refl c.requires.many
           (λ asked heard. absurd (let e = sym asked ∙ some.1 in cc)))
     ]
