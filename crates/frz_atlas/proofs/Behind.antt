@@ -136,10 +136,10 @@ module _ (names : List (List ℕ)) (backs : List BackTable) (old mid new : Store
   links = map link_loaded backs
 
   -- one more is open
-  pub one_more : (given : BackTable)
+  pub one_more_open : (given : BackTable)
       → OpensOver (backs_of links) name given mid new steps_between steps_now
       → OpensAll (names ++ (name ∷ [])) (backs ++ (given ∷ [])) old new steps_before steps_now
-  one_more given k =
+  one_more_open given k =
       let link = link_loaded given in
       let text_of : BackTable → List ℕ = λ back. back.table.text in
       let read_in : TableBytes → List ℕ = λ t. t.contents.text in

@@ -144,9 +144,9 @@ none_loaded told = record {
 module _ (names : List (List ℕ)) (links : List Link) (old mid new : StoreTold) (name : List ℕ)
     (h : LoadsAll names links old mid) (same : mid.files ≡ old.files) where
   -- one more is loaded
-  one_more : (given : BackTable) → LoadsOne name mid new given
+  one_more_loaded : (given : BackTable) → LoadsOne name mid new given
       → LoadsAll (names ++ (name ∷ [])) (links ++ (link_loaded given ∷ [])) old new
-  one_more given k =
+  one_more_loaded given k =
       let table : TableBytes = record { bytes = k.bytes; contents = contents_of given.table } in
       let tables : List TableBytes = h.tables ++ (table ∷ []) in
       let helds : all_held h.tables ++ (Some k.bytes ∷ []) ≡ all_held tables =
@@ -222,7 +222,7 @@ module _ {A : Type 0} (f : A → List ℕ) (names : List A) (i : ℕ) (x : A) (n
       → LoadsAll (map f (take i names) ++ (f x ∷ []))
       (map link_loaded items ++ (link_loaded given ∷ [])) old new
   next_loaded given k =
-      one_more (map f (take i names)) (map link_loaded items) old mid new (f x) h same given
+      one_more_loaded (map f (take i names)) (map link_loaded items) old mid new (f x) h same given
       (subst (λ (n : List ℕ). LoadsOne n mid new given) named k)
 
   pub loaded_next : (given : BackTable) (pushed : List BackTable) → pushed ≡ items ++ (given ∷ [])

@@ -12,7 +12,7 @@ use Rattle.frz_atlas.specs.Causes.{back_fault}
 use Rattle.frz_atlas.specs.Opening.{OpensAll, OpensOver, RefusesAll, RefusesOver}
 use Rattle.frz_atlas.specs.declared.fault.AtlasFault.TheVariants as atlas
 use Rattle.frz_atlas.specs.declared.fault.BackFault.{BackFault}
-use Rattle.frz_atlas.proofs.Behind.{memory_wanted, one_more, one_refused}
+use Rattle.frz_atlas.proofs.Behind.{memory_wanted, one_more_open, one_refused}
 
 module _ {A B : Type 0} (f : A → B) (xs : List A) (i : ℕ) (x : A) (h : i < length xs)
     (is : x ≡ get_or xs i x) where
@@ -42,7 +42,7 @@ module _ {A : Type 0} (f : A → List ℕ) (names : List A) (i : ℕ) (x : A) (n
       → OpensAll (map f (take i names) ++ (f x ∷ [])) (items ++ (given ∷ [])) old new
       steps_before steps_now
   next_open given k =
-      one_more (map f (take i names)) items old mid new steps_before steps_between
+      one_more_open (map f (take i names)) items old mid new steps_before steps_between
       steps_now (f x) h same given
       (subst (λ (l : List Back). OpensOver l (f x) given mid new steps_between steps_now)
       same_backs_before

@@ -5,17 +5,17 @@ use Rattle.frz_atlas.specs.declared.fault.BackFault.{BackFault}
 use Rattle.frz_atlas.specs.declared.fault.BackFault.TheVariants.{Refused, Wrong}
 use Rattle.frz_atlas_prelude.specs.BackLines.{back_line}
 
-pub back_said : (place : ℕ) (fault : BackFault) → back_line place fault ≡ [] → ⊥
-back_said place (Refused table_faults.Missing) e = cc
-back_said place (Refused table_faults.Magic) e = cc
-back_said place (Refused (table_faults.Truncated length due)) e = cc
-back_said place (Refused (table_faults.Extra length due)) e = cc
-back_said place (Refused (table_faults.Rules fault)) e = cc
-back_said place (Refused (table_faults.Size kept due)) e = cc
-back_said place (Refused table_faults.Failed) e = cc
-back_said place (Refused table_faults.NoMemory) e = cc
-back_said place (Wrong wrong) e = cc
+pub back_line_not_empty : (place : ℕ) (fault : BackFault) → back_line place fault ≡ [] → ⊥
+back_line_not_empty place (Refused table_faults.Missing) e = cc
+back_line_not_empty place (Refused table_faults.Magic) e = cc
+back_line_not_empty place (Refused (table_faults.Truncated length due)) e = cc
+back_line_not_empty place (Refused (table_faults.Extra length due)) e = cc
+back_line_not_empty place (Refused (table_faults.Rules fault)) e = cc
+back_line_not_empty place (Refused (table_faults.Size kept due)) e = cc
+back_line_not_empty place (Refused table_faults.Failed) e = cc
+back_line_not_empty place (Refused table_faults.NoMemory) e = cc
+back_line_not_empty place (Wrong wrong) e = cc
 
-pub not_both : {A E : Type 0} (x : Result A E) (value : A) (fault : E)
+pub result_is_not_both : {A E : Type 0} (x : Result A E) (value : A) (fault : E)
     → x ≡ Ok value → x ≡ Err fault → ⊥
-not_both x value fault e f = (let same : Ok value ≡ Err fault = sym e ∙ f in cc)
+result_is_not_both x value fault e f = (let same : Ok value ≡ Err fault = sym e ∙ f in cc)

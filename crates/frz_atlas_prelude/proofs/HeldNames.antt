@@ -24,16 +24,17 @@ is_among name names = list_any (λ other. bytes_eq other name) names
 
 -- where no two names are the same, the first is not among the others, and no two of these are the
 -- same
-pub first_alone : (name : List ℕ) (names : List (List ℕ)) → has_twice (name ∷ names) ≡ false
+pub first_differs_from_others : (name : List ℕ) (names : List (List ℕ))
+    → has_twice (name ∷ names) ≡ false
     → (is_among name names ≡ false) × (has_twice names ≡ false)
-first_alone name names h = neither_is_true (is_among name names) (has_twice names) h
+first_differs_from_others name names h = neither_is_true (is_among name names) (has_twice names) h
 
 -- where no two names are the same, this stays so without the second name
 pub without_second : (first second : List ℕ) (names : List (List ℕ))
     → has_twice (first ∷ second ∷ names) ≡ false → has_twice (first ∷ names) ≡ false
 without_second first second names h =
-    let outer = first_alone first (second ∷ names) h in
-    let inner = first_alone second names outer.1 in
+    let outer = first_differs_from_others first (second ∷ names) h in
+    let inner = first_differs_from_others second names outer.1 in
     let apart = neither_is_true (bytes_eq second first) (is_among first names) outer.0 in
     rw (apart.1, inner.1) refl
 
@@ -98,7 +99,7 @@ untold_all [] [] apart h = record { files = no_files; agrees = λ q. tt; hold = 
 untold_all [] (held ∷ helds) apart h = absurd h
 untold_all (name ∷ names) [] apart h = absurd h
 untold_all (name ∷ names) (held ∷ helds) apart h =
-    let alone = first_alone name names apart in
+    let alone = first_differs_from_others name names apart in
     let rest = untold_all names helds alone.1 h.1 in
     record {
       files = instead rest.files name held;
@@ -129,13 +130,15 @@ may_hold_there None files name are = are name
 may_hold_there (Some m) files name is = ap (λ (f : Files). f name) is
 
 -- as many as there are names
-pub as_many : (told : Option Files) (names : List (List ℕ)) (helds : List (Option (List ℕ)))
+pub as_many_as_names : (told : Option Files) (names : List (List ℕ))
+    (helds : List (Option (List ℕ)))
     → MayHoldAll told names helds → length helds ≡ length names
 unfolding MayHoldAll
-as_many told [] [] h = refl
-as_many told [] (held ∷ helds) h = absurd h
-as_many told (name ∷ names) [] h = absurd h
-as_many told (name ∷ names) (held ∷ helds) h = ap suc (as_many told names helds h.1)
+as_many_as_names told [] [] h = refl
+as_many_as_names told [] (held ∷ helds) h = absurd h
+as_many_as_names told (name ∷ names) [] h = absurd h
+as_many_as_names told (name ∷ names) (held ∷ helds) h = ap suc
+    (as_many_as_names told names helds h.1)
 
 -- the place that is refused is one of theirs
 pub place_below : (before : List Back) (helds : List (Option (List ℕ))) (place : ℕ)

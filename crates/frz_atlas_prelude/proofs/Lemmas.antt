@@ -1,8 +1,8 @@
 -- The lemmas that the crates above cite.
 pub use Rattle.frz_atlas_prelude.proofs.FaultEnds.{AnswersAt, MayEndAt, ended_at}
 pub use Rattle.frz_atlas_prelude.proofs.HeldNames.{
-  as_many,
-  first_alone,
+  as_many_as_names,
+  first_differs_from_others,
   judged_exact,
   judged_over,
   may_hold_there,
@@ -11,7 +11,7 @@ pub use Rattle.frz_atlas_prelude.proofs.HeldNames.{
   without_second,
 }
 pub use Rattle.frz_atlas_prelude.proofs.HeldTable.{Holds, apart_names_hold}
-pub use Rattle.frz_atlas_prelude.proofs.BackRefused.{back_said, not_both}
+pub use Rattle.frz_atlas_prelude.proofs.BackRefused.{back_line_not_empty, result_is_not_both}
 pub use Rattle.frz_atlas_prelude.proofs.SmallPlaces.{place_refused, small_refused, small_unopened, small_unread}
 pub use Rattle.frz_atlas_prelude.proofs.TablesOnce.{
   AllFound,

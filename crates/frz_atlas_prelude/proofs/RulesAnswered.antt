@@ -15,7 +15,7 @@ use Rattle.frz_atlas.specs.declared.fault.BackFault.{BackFault}
 use Rattle.frz_atlas_prelude.specs.BackLines.{back_line, back_status}
 use Rattle.frz_atlas_prelude.specs.RulesRefusals.{Refuses, RefusesBack, RefusesRules, of_back, of_rules}
 use Rattle.frz_atlas_prelude.specs.Tables.{AreTablesIn}
-use Rattle.frz_atlas_prelude.proofs.BackRefused.{back_said, not_both}
+use Rattle.frz_atlas_prelude.proofs.BackRefused.{back_line_not_empty, result_is_not_both}
 use Rattle.frz_atlas_prelude.proofs.TablesOnce.{AllFound, all_exact, all_found, never_refused, one_place, one_refused}
 
 -- the rules that a text that is there gives
@@ -43,7 +43,7 @@ module _ (rules : List ℕ) (behind : List (List ℕ)) (m : Files) where
         refused = h;
         told = refl;
       });
-      text = back_said place fault;
+      text = back_line_not_empty place fault;
     }
     by_behind text lines there accepted (all_exact tables are h) =
         over_exact text lines tables there accepted (record { there = are; exact = h })
@@ -75,9 +75,9 @@ module _ (rules : List ℕ) (behind : List (List ℕ)) (m : Files) where
       ∙ h.refused in cc) in
       k.told ∙ ap (λ (w : Refusal). says (status_of w) (refusal_line w) m) same ∙ sym h.told
   one_refusal a b (of_rules h) (of_back k) =
-      absurd (not_both (rules_held (m rules)) k.lines h.why k.accepted h.refused)
+      absurd (result_is_not_both (rules_held (m rules)) k.lines h.why k.accepted h.refused)
   one_refusal a b (of_back h) (of_rules k) =
-      absurd (not_both (rules_held (m rules)) h.lines k.why h.accepted k.refused)
+      absurd (result_is_not_both (rules_held (m rules)) h.lines k.why h.accepted k.refused)
   one_refusal a b (of_back h) (of_back k) =
       let same = one_place [] (map m behind) k.place h.place k.fault h.fault k.refused h.refused in
       k.told ∙ ap (λ (n : ℕ). says (back_status k.fault) (back_line n k.fault) m) same.0
@@ -88,7 +88,8 @@ module _ (rules : List ℕ) (behind : List (List ℕ)) (m : Files) where
       → m rules ≡ Some text → rules_of text ≡ Ok lines → AreTablesIn (map m behind) tables
       → Refuses rules behind m a → ⊥
   not_refused text lines tables a there accepted exact (of_rules h) =
-      not_both (rules_held (m rules)) lines h.why (held_rules (m rules) text lines there accepted)
+      result_is_not_both (rules_held (m rules)) lines h.why
+      (held_rules (m rules) text lines there accepted)
       h.refused
   not_refused text lines tables a there accepted exact (of_back h) =
       never_refused [] (map m behind) tables h.place h.fault exact.there exact.exact h.refused

@@ -14,7 +14,7 @@ use Rattle.frz_atlas.specs.declared.fault.BackFault.TheVariants.{Refused, Wrong}
 use Rattle.frz_atlas.proofs.Lemmas.{unopened_below}
 use Rattle.frz_atlas_prelude.specs.declared.names.TheConstants.{MOST_BACKS}
 use Rattle.frz_atlas_prelude.specs.Ending.{HasSmallPlace}
-use Rattle.frz_atlas_prelude.proofs.HeldNames.{as_many, place_below}
+use Rattle.frz_atlas_prelude.proofs.HeldNames.{as_many_as_names, place_below}
 
 module _ (behind : List (List ℕ)) (few : length behind ≤ MOST_BACKS) (told : Option Files)
     (helds : List (Option (List ℕ))) (may : MayHoldAll told behind helds) where
@@ -23,7 +23,7 @@ module _ (behind : List (List ℕ)) (few : length behind ≤ MOST_BACKS) (told :
       → place < MOST_BACKS
   place_refused place fault h =
       let below = place_below [] helds place fault h in
-      let many = as_many told behind helds may in omega (arith, below, many, few)
+      let many = as_many_as_names told behind helds may in omega (arith, below, many, few)
 
   one_refused : (fault : AtlasFault) → IsOneRefused helds fault → HasSmallPlace fault
   one_refused (Rules fault) h = tt
@@ -38,7 +38,7 @@ module _ (behind : List (List ℕ)) (few : length behind ≤ MOST_BACKS) (told :
   one_unopened (Table fault) h = tt
   one_unopened (Back place (Refused fault)) h =
       let below = unopened_below helds place fault h in
-      let many = as_many told behind helds may in omega (arith, below, many, few)
+      let many = as_many_as_names told behind helds may in omega (arith, below, many, few)
   one_unopened (Back place (Wrong wrong)) h = absurd h
   one_unopened Failed h = tt
   one_unopened NoMemory h = tt

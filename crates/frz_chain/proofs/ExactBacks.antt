@@ -28,12 +28,13 @@ module _ {M V : Type 0} (arena : Arena M ℕ V) (codes : Colour → List ℕ) wh
       (eq-eqb (kept_code codes White i) (given_code arena codes White i) (agree White))
       (eq-eqb (kept_code codes Black i) (given_code arena codes Black i) (agree Black))
 
-  all_there : (n : ℕ) → ((i : ℕ) → i < n → AgreeAt arena codes i) → all_agree arena codes n ≡ true
+  all_agree_where_each : (n : ℕ) → ((i : ℕ) → i < n → AgreeAt arena codes i)
+      → all_agree arena codes n ≡ true
   unfolding all_agree
-  all_there zero agree = refl
-  all_there (suc n) agree =
+  all_agree_where_each zero agree = refl
+  all_agree_where_each (suc n) agree =
       and_from (all_agree arena codes n) (agree_at arena codes n)
-      (all_there n (λ i l. agree i (omega (arith, l))))
+      (all_agree_where_each n (λ i l. agree i (omega (arith, l))))
       (agree_there n (agree n (omega arith)))
 
   -- and where one differs they are not
@@ -63,7 +64,7 @@ module _ {M V : Type 0} (arena : Arena M ℕ V) (codes : Colour → List ℕ) wh
 
   exact_agree : (size : ℕ) → ((side : Colour) → IsExact arena side size (codes side))
       → all_agree arena codes size ≡ true
-  exact_agree size exact = all_there size (λ i l side. (exact side).local i l)
+  exact_agree size exact = all_agree_where_each size (λ i l side. (exact side).local i l)
 
   wrong_differ : (size : ℕ) (wrong : Wrong) → IsFirstWrong arena size codes wrong
       → all_agree arena codes size ≡ false

@@ -25,7 +25,7 @@ use Rattle.frz_chain.specs.Books.{Back, back_value, told_at}
 use Rattle.frz_chain.specs.ChainPlies.{back_codes, WinsWithinPlies, OwnWinsNumbered}
 use Rattle.frz_chain.specs.FileOn.{IsExactBack}
 use Rattle.frz_chain.proofs.Pairs.{win_told}
-use Rattle.frz_chain.proofs.Told.{of_back}
+use Rattle.frz_chain.proofs.Told.{holds_of_back_value}
 
 -- a value by which the side wins is a mate within so many plies more
 abbrev pub Forced : Colour → ℕ → Board → Value → Type 0
@@ -112,7 +112,7 @@ module _ (rules : RuleLines) (value : Board → Value) (back : Back)
   -- a win that a table tells mates within the table's longest win and the plies outside
   pub table_forced : Forced side (more + most) q (back_value back q)
   table_forced =
-      of_back rules back exact.set q (Forced side (more + most) q)
+      holds_of_back_value rules back exact.set q (Forced side (more + most) q)
       (unknown_forced side (more + most) q) number_forced
 
 -- where each value outside has a number of plies, it mates within the table's longest win

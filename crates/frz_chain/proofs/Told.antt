@@ -44,10 +44,10 @@ module _ (rules : RuleLines) (back : Back) (same : back.groups ≡ rules.groups)
 
   -- so what holds of the value by the codes at the number, and of an unknown value, holds of what
   -- it tells
-  pub of_back : (P : Value → Type 0) → P Unknown
+  pub holds_of_back_value : (P : Value → Type 0) → P Unknown
       → (Member rules.groups q → P (told_at back (Some (Num rules.groups q))))
       → P (back_value back q)
-  of_back P unknown inside = by_test (is_member rules.groups q) refl
+  holds_of_back_value P unknown inside = by_test (is_member rules.groups q) refl
     where
       by_test : (member : Bool) → is_member rules.groups q ≡ member → P (back_value back q)
       by_test true e =

@@ -22,7 +22,7 @@ use Rattle.frz_game.proofs.Lemmas.{bound_means, stored_bound}
 use Rattle.frz_chain.specs.Books.{Back, back_value, chain_value, told_at}
 use Rattle.frz_chain.specs.FileOn.{IsExactBack}
 use Rattle.frz_chain.proofs.Pairs.{of_pairs}
-use Rattle.frz_chain.proofs.Told.{of_back, of_either}
+use Rattle.frz_chain.proofs.Told.{holds_of_back_value, of_either}
 
 -- a bound whose code is a win is a win
 win_is : (b : Bound) (code : ℕ) → code ≡ code_of b → is_win code ≡ true → (n : ℕ) × (b ≡ Wins n)
@@ -78,7 +78,7 @@ module _ (rules : RuleLines) (value : Board → Value) (back : Back)
       tt
 
   pub back_true : IsTrueValue (back_value back q) q
-  back_true = of_back rules back exact.set q (λ (v : Value). IsTrueValue v q) tt in_set
+  back_true = holds_of_back_value rules back exact.set q (λ (v : Value). IsTrueValue v q) tt in_set
 
 pub chained_true : (rules backs : RuleLines) (value : Board → Value) (back : Back)
     → IsExactBack backs value back

@@ -204,11 +204,11 @@ module _ (rules table : List ℕ) (behind : List (List ℕ))
       told = refl;
     })
 
-    pub made_so : (size : ℕ) (end : End) (after : SinkTold)
+    pub table_is_made : (size : ℕ) (end : End) (after : SinkTold)
         → BuildsAtlas text behind table mid new before now size → new.room ≡ 0
         → Said statuses.Success (built_line size) end out after
         → Ran (building_at rules table behind) end start (world new input after now)
-    made_so size end after b full told =
+    table_is_made size end after b full told =
         wrote_it (building_at rules table behind) table b.bytes start new now later refl refl
         (built_line size) end after refl (wrote_after table b.bytes old mid new quiet b.written)
         (fine_after old mid new fine b.fine) full told

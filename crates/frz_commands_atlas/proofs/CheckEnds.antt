@@ -70,12 +70,12 @@ module _ (table : List ℕ) (behind : List (List ℕ)) (apart : has_twice (table
         (record { steps = within.steps; calls = within.calls; asked = within.asked }))
 
     -- the verdict is told
-    pub told_so : (checked : Checked) → HasAtlasCause {T = Checked} (Ok checked) old new
+    pub verdict_is_told : (checked : Checked) → HasAtlasCause {T = Checked} (Ok checked) old new
         → ChecksAtlas table behind old new before now checked
         → Said (verdict_status checked.verdict)
         (verdict_line checked.size checked.behind.items checked.verdict) end out after
         → Ran (checking_at table behind) end start finish
-    told_so checked fine c told =
+    verdict_is_told checked fine c told =
         said (checking_at table behind) _ _ end start mid after
         (quiet_both old new input out before now quiet later)
         (fine_store old new input out before now fine)

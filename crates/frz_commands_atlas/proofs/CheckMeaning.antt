@@ -34,7 +34,7 @@ use Rattle.frz_atlas.specs.declared.fault.BackFault.TheVariants.{Refused, Wrong}
 use Rattle.frz_atlas.proofs.Lemmas.{judged_exact, links_backs}
 use Rattle.frz_atlas_prelude.specs.BackLines.{back_status}
 use Rattle.frz_atlas_prelude.specs.TableRefusals.{RefusesBehind}
-use Rattle.frz_atlas_prelude.proofs.Lemmas.{judged_over, never_refused, not_both}
+use Rattle.frz_atlas_prelude.proofs.Lemmas.{judged_over, never_refused, result_is_not_both}
 use Rattle.frz_commands_atlas.specs.AtlasHeadline.{AtlasHeadline}
 use Rattle.frz_commands_atlas.specs.Checking.{IsCheckedAt, IsJudgedAtlas, judged, no_back, no_table, verdict_line, verdict_status}
 use Rattle.frz_commands_atlas.specs.CheckMeans.{HoldsAtlas, MeansCheck, MeansStatus, of_back, of_entry, of_fault, of_table}
@@ -159,7 +159,8 @@ module _ (table : List ℕ) (behind : List (List ℕ)) (files : Files) (are : Ho
         means_so _ _ h.told
         (by_table_status (λ s. MeansStatus table behind files a s) h.fault (of_table h) (of_table h))
         (λ p. let k = exact_atlas p in
-        absurd (not_both _ k.contents h.fault (opens_judged table behind files verdicts.Exact k)
+        absurd (result_is_not_both _ k.contents h.fault
+        (opens_judged table behind files verdicts.Exact k)
         h.refused))
     check_means (no_back h) =
         means_so _ _ h.told (says_back h.fault h)

@@ -25,7 +25,7 @@ use Rattle.frz_atlas.specs.Behind.{TableBytes, backs_in}
 use Rattle.frz_atlas.specs.Checking.{sizes_in}
 use Rattle.frz_atlas.specs.declared.fault.BackFault.{BackFault}
 use Rattle.frz_atlas_prelude.specs.BackLines.{back_line, back_status}
-use Rattle.frz_atlas_prelude.proofs.Lemmas.{AllFound, all_exact, all_found, back_said, never_refused, not_both, one_place, one_refused, one_tables}
+use Rattle.frz_atlas_prelude.proofs.Lemmas.{AllFound, all_exact, all_found, back_line_not_empty, never_refused, one_place, one_refused, one_tables, result_is_not_both}
 use Rattle.frz_commands_atlas.specs.Checking.{IsCheckedAt, IsJudgedAtlas, judged, no_back, no_table, verdict_line, verdict_status}
 
 -- of one result
@@ -59,7 +59,7 @@ module _ (table : List ℕ) (behind : List (List ℕ)) (m : Files) where
       refused = h;
       told = refl;
     });
-    text = back_said place fault;
+    text = back_line_not_empty place fault;
   }
   by_behind contents bytes there opens (all_exact tables are h) =
       let value = atlas_value contents.rules (backs_in tables) in
@@ -97,7 +97,8 @@ module _ (table : List ℕ) (behind : List (List ℕ)) (m : Files) where
       by_held : (held : Option (List ℕ)) → m table ≡ held → (contents : Contents)
           → opening ≡ Ok contents → SomeAnswer (λ a. IsCheckedAt table behind m a)
       by_held None there contents e =
-          absurd (not_both (opened (table_format Atlas) None) contents table_faults.Missing
+          absurd (result_is_not_both (opened (table_format Atlas) None) contents
+          table_faults.Missing
           (ap (opened (table_format Atlas)) (sym there) ∙ e) (opened_missing (table_format Atlas)))
       by_held (Some bytes) there contents e =
           by_behind contents bytes there (ap (opened (table_format Atlas)) (sym there) ∙ e)
@@ -142,11 +143,11 @@ module _ (table : List ℕ) (behind : List (List ℕ)) (m : Files) where
       k.told ∙ ap (λ (f : TableFault). says (table_status f) (table_line f) m)
       (same_fault opening k.fault h.fault k.refused h.refused) ∙ sym h.told
   one_check a b (no_table h) (no_back k) =
-      absurd (not_both opening k.opens.0 h.fault k.opens.1 h.refused)
+      absurd (result_is_not_both opening k.opens.0 h.fault k.opens.1 h.refused)
   one_check a b (no_table h) (judged w k e) =
-      absurd (not_both opening k.contents h.fault (opens_judged w k) h.refused)
+      absurd (result_is_not_both opening k.contents h.fault (opens_judged w k) h.refused)
   one_check a b (no_back h) (no_table k) =
-      absurd (not_both opening h.opens.0 k.fault h.opens.1 k.refused)
+      absurd (result_is_not_both opening h.opens.0 k.fault h.opens.1 k.refused)
   one_check a b (no_back h) (no_back k) =
       let same = one_place [] helds k.place h.place k.fault h.fault k.refused h.refused in
       k.told ∙ ap (λ (n : ℕ). says (back_status k.fault) (back_line n k.fault) m) same.0
@@ -155,7 +156,7 @@ module _ (table : List ℕ) (behind : List (List ℕ)) (m : Files) where
       absurd (never_refused [] helds k.tables h.place h.fault k.behind_it.there k.behind_it.exact
       h.refused)
   one_check a b (judged v h e) (no_table k) =
-      absurd (not_both opening h.contents k.fault (opens_judged v h) k.refused)
+      absurd (result_is_not_both opening h.contents k.fault (opens_judged v h) k.refused)
   one_check a b (judged v h e) (no_back k) =
       absurd (never_refused [] helds h.tables k.place k.fault h.behind_it.there h.behind_it.exact
       k.refused)

@@ -42,29 +42,31 @@ module _ (contents : Contents) (bytes : List ℕ) (p : Board) where
       (MatchResult given (IsRanked (rank_for p.turn) (rows_in contents bytes p)) (λ why. ⊥))
       (given ≡ Err refusals.Outside)
 
-  some_in : (inside : Bool) → (given : Given) × ByTest inside given
-  some_in true =
+  some_given_in_set : (inside : Bool) → (given : Given) × ByTest inside given
+  some_given_in_set true =
       let one = some_order (rank_for p.turn) (rows_in contents bytes p) in (Ok one.0, one.1)
-  some_in false = (Err refusals.Outside, refl)
+  some_given_in_set false = (Err refusals.Outside, refl)
 
-  one_in : (inside : Bool) (given other : Given) → ByTest inside given → ByTest inside other
+  one_given_in_set : (inside : Bool) (given other : Given) → ByTest inside given
+      → ByTest inside other
       → other ≡ given
-  one_in true (Ok rows) (Ok more) h k =
+  one_given_in_set true (Ok rows) (Ok more) h k =
       ap (λ (l : List Row). Ok l)
       (one_order (rank_for p.turn) (rows_in contents bytes p) more rows k h)
-  one_in true (Err why) other h k = absurd h
-  one_in true (Ok rows) (Err why) h k = absurd k
-  one_in false given other h k = k ∙ sym h
+  one_given_in_set true (Err why) other h k = absurd h
+  one_given_in_set true (Ok rows) (Err why) h k = absurd k
+  one_given_in_set false given other h k = k ∙ sym h
 
 some_by : (x : Result Contents TableFault) (bytes : List ℕ) (p : Board)
     → (given : Given) × AreRowsBy x bytes p given
-some_by (Ok contents) bytes p = some_in contents bytes p (is_member contents.rules.groups p)
+some_by (Ok contents) bytes p = some_given_in_set contents bytes p
+    (is_member contents.rules.groups p)
 some_by (Err fault) bytes p = (Err (refusals.Table fault), refl)
 
 one_by : (x : Result Contents TableFault) (bytes : List ℕ) (p : Board) (given other : Given)
     → AreRowsBy x bytes p given → AreRowsBy x bytes p other → other ≡ given
 one_by (Ok contents) bytes p given other h k =
-    one_in contents bytes p (is_member contents.rules.groups p) given other h k
+    one_given_in_set contents bytes p (is_member contents.rules.groups p) given other h k
 one_by (Err fault) bytes p given other h k = k ∙ sym h
 
 pub some_rows : (held : Option (List ℕ)) (p : Board) → (given : Given) × AreRowsOf held p given

@@ -214,18 +214,18 @@ module _ {X : Type 0} (rank : X → ℕ) where
             (IsPermutation-refl (x ∷ y ∷ ys))
       ]
 
-  all_same : (xs : List X) → IsPermutation xs (in_order xs)
-  all_same [] = IsPermutation-refl []
-  all_same (x ∷ xs) =
+  order_is_permutation : (xs : List X) → IsPermutation xs (in_order xs)
+  order_is_permutation [] = IsPermutation-refl []
+  order_is_permutation (x ∷ xs) =
       IsPermutation-trans (x ∷ xs) (x ∷ in_order xs) (put_in x (in_order xs))
-      (IsPermutation-cons x xs (in_order xs) (all_same xs)) (put_same x (in_order xs))
+      (IsPermutation-cons x xs (in_order xs) (order_is_permutation xs)) (put_same x (in_order xs))
 
   -- there is one
   pub some_order : (xs : List X) → (ranked : List X) × IsRanked rank xs ranked
   some_order xs = (
     in_order xs,
     record {
-      same = all_same xs;
+      same = order_is_permutation xs;
       rising = rising_is_non_decreasing (in_order xs) (all_rises xs);
       level = λ x. all_level x xs;
     },

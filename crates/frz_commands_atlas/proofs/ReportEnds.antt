@@ -161,14 +161,14 @@ module _ (table : List ℕ) (behind : List (List ℕ)) (apart : has_twice (table
         sides_are_kept White = refl
         sides_are_kept Black = refl
 
-    pub told_so : (result : Result Totals ReportFault) (after : SinkTold)
+    pub report_is_told : (result : Result Totals ReportFault) (after : SinkTold)
         → HasAtlasCause {T = LoadedAtlas} (Ok given) old new
         → (result ≡ Err report_faults.Store → ⊥)
         → WritesReport contents.rules
         (atlas_value contents.rules (map loaded_back given.backs.items))
         (λ side. of_side side given.table.white.items given.table.black.items) result out after
         → Ran (reporting_at table behind) (end_by result) start (world new input after now)
-    told_so result after fine never h =
+    report_is_told result after fine never h =
         report_ended (reporting_at table behind) (may_report table behind) contents.rules value kept
         old new input out after before now quiet later report_is_answer result
         (loaded_cause old new result fine never) (by_file result after h)

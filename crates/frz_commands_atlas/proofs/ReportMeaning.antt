@@ -30,7 +30,7 @@ use Rattle.frz_prelude.specs.declared.refused.Refused.TheVariants as refusals
 use Rattle.frz_prelude.proofs.Lemmas.{by_table_status, refusal_said}
 use Rattle.frz_atlas_prelude.specs.Names.{has_twice, table_names_of}
 use Rattle.frz_atlas_prelude.specs.TableRefusals.{of_back, of_table}
-use Rattle.frz_atlas_prelude.proofs.Lemmas.{back_said, not_both}
+use Rattle.frz_atlas_prelude.proofs.Lemmas.{back_line_not_empty, result_is_not_both}
 use Rattle.frz_commands_atlas.specs.Reporting.{MeansReport, MeansStatus, report_at, report_behind, report_by, report_words, reporting_at, value_behind}
 
 abbrev Opened : Type 0
@@ -41,7 +41,8 @@ some_report : (x : Result Contents TableFault) (bytes : List ℕ) (behind : Open
     → (report_by x bytes behind files).text ≡ [] → ⊥
 some_report (Ok contents) bytes (Ok tables) files =
     report_said contents.rules (value_behind contents tables) (kept_codes contents bytes)
-some_report (Ok contents) bytes (Err refused) files = back_said refused.0 (Refused refused.1)
+some_report (Ok contents) bytes (Err refused) files = back_line_not_empty refused.0
+    (Refused refused.1)
 some_report (Err fault) bytes behind files = refusal_said (refusals.Table fault)
 
 module _ (table : List ℕ) (behind : List (List ℕ)) (files : Files) where
@@ -104,7 +105,7 @@ module _ (table : List ℕ) (behind : List (List ℕ)) (files : Files) where
         → a ≡ report_behind contents (unwrap_or held []) (opened_all (map files behind)) files
         → MeansReport table behind files a
     by_held None there contents opens told =
-        absurd (not_both _ contents table_faults.Missing opens
+        absurd (result_is_not_both _ contents table_faults.Missing opens
         (opened_missing (table_format Atlas)))
     by_held (Some bytes) there contents opens told =
         by_behind bytes contents there opens (opened_all (map files behind)) refl told

@@ -16,7 +16,7 @@ use Rattle.frz_answer.specs.Ends.{Ran}
 use Rattle.frz_answer.specs.World.{world}
 use Rattle.frz_atlas_prelude.specs.Names.{has_twice}
 use Rattle.frz_atlas_prelude.specs.declared.names.TheConstants.{MOST_BACKS}
-use Rattle.frz_atlas_prelude.proofs.Lemmas.{as_many}
+use Rattle.frz_atlas_prelude.proofs.Lemmas.{as_many_as_names}
 use Rattle.frz_ways.specs.declared.end.LineFault.TheVariants as faults
 use Rattle.frz_ways.specs.declared.opponent.Opponent.TheVariants.{Codes}
 use Rattle.frz_ways.specs.declared.opponent.Player.{Player}
@@ -83,7 +83,7 @@ module _ (there : JourneyThere) (player : Player) (table : List ℕ) (behind : L
 
   few_links : length (map link_of l.tables) ≤ MOST_BACKS
   few_links =
-      let many = as_many store.files behind (all_held l.tables) l.may_all in
+      let many = as_many_as_names store.files behind (all_held l.tables) l.may_all in
       let same = many_held l.tables in omega (arith, many, same, few)
 
   -- a wrong code is one of the tables that were named

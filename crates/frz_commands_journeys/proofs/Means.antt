@@ -34,7 +34,7 @@ use Rattle.frz_prelude.specs.declared.refused.Refused.TheVariants as refusals
 use Rattle.frz_prelude.proofs.Lemmas.{by_table_status}
 use Rattle.frz_atlas_prelude.specs.BackLines.{back_line}
 use Rattle.frz_atlas_prelude.specs.TableRefusals.{of_back, of_table}
-use Rattle.frz_atlas_prelude.proofs.Lemmas.{not_both}
+use Rattle.frz_atlas_prelude.proofs.Lemmas.{result_is_not_both}
 use Rattle.frz_ways.specs.declared.end.LineFault.TheVariants as faults
 use Rattle.frz_ways.specs.declared.hearing.Why.{Why}
 use Rattle.frz_ways.specs.declared.hearing.Why.TheVariants.{Ended, Limit}
@@ -461,7 +461,7 @@ module _ (laws : JourneyLaws) (player : Player) (table : List ℕ) (behind : Lis
       → IsPlayedOver player p contents (unwrap_or held []) (opened_all (map files behind)) heard
       files a → MeansSo player table behind p files heard a
   by_held None there contents opens h =
-      absurd (not_both _ contents table_faults.Missing opens
+      absurd (result_is_not_both _ contents table_faults.Missing opens
       (opened_missing (table_format Atlas)))
   by_held (Some bytes) there contents opens h =
       by_behind bytes contents there opens (opened_all (map files behind)) refl h

@@ -20,7 +20,7 @@ use Rattle.frz_prelude.specs.TableCauses.{table_line}
 use Rattle.frz_prelude.specs.declared.refused.Refused.TheVariants as refusals
 use Rattle.frz_prelude.proofs.Lemmas.{refusal_said}
 use Rattle.frz_atlas_prelude.specs.BackLines.{back_line}
-use Rattle.frz_atlas_prelude.proofs.Lemmas.{back_said}
+use Rattle.frz_atlas_prelude.proofs.Lemmas.{back_line_not_empty}
 use Rattle.frz_ways.specs.declared.opponent.Opponent.{Opponent}
 use Rattle.frz_ways.specs.declared.opponent.Player.{Player}
 use Rattle.frz_ways.specs.declared.session_end.PlayFault.{PlayFault}
@@ -88,7 +88,7 @@ module _ (there : JourneyThere) (player : Player) (p : Board) (heard : List ℕ)
   some_by (Ok contents) bytes (Err refused) = record {
     a = says (table_status refused.1) (back_line refused.0 (Refused refused.1)) files;
     answer = refl;
-    text = back_said refused.0 (Refused refused.1);
+    text = back_line_not_empty refused.0 (Refused refused.1);
   }
   some_by (Err fault) bytes y = record {
     a = says (table_status fault) (table_line fault) files;

@@ -7,7 +7,7 @@ use Rattle.frz_game.specs.declared.wrong.Wrong.{Wrong as WrongEntry}
 use Rattle.frz_arena.specs.WayEnds.{Wrong, NoBound, Mated, Stalemated, Exit, Cut, Stopped}
 use Rattle.frz_backs.specs.Links.{Link}
 use Rattle.frz_atlas.specs.declared.fault.BackFault.TheVariants as backs
-use Rattle.frz_atlas_prelude.proofs.Lemmas.{back_said}
+use Rattle.frz_atlas_prelude.proofs.Lemmas.{back_line_not_empty}
 use Rattle.frz_ways.specs.declared.end.LineFault.TheVariants as faults
 use Rattle.frz_ways.specs.declared.hearing.Why.{Why}
 use Rattle.frz_ways.specs.declared.hearing.Why.TheVariants.{Ended, Limit}
@@ -64,9 +64,9 @@ one_arrival side (stage ∷ next ∷ stages) place other answer last h k =
     one_arrival side (next ∷ stages) place other answer last h k
 
 -- the line that tells a wrong code says something
-wrong_said : (place : Place) (wrong : WrongEntry) → wrong_at place wrong ≡ [] → ⊥
-wrong_said Own wrong e = cc
-wrong_said (Behind place) wrong e = back_said place (backs.Wrong wrong) e
+wrong_line_not_empty : (place : Place) (wrong : WrongEntry) → wrong_at place wrong ≡ [] → ⊥
+wrong_line_not_empty Own wrong e = cc
+wrong_line_not_empty (Behind place) wrong e = back_line_not_empty place (backs.Wrong wrong) e
 
 limit_said : (place : Place) (limit : PlayLimit) → naming place (Err (plays.Limit limit)) ≡ [] → ⊥
 limit_said place Lines e = cc
@@ -87,7 +87,7 @@ fault_named : (side : Colour) (end : EndOfWay) (place : Place) (fault : PlayFaul
     → Err fault ≡ told side end → NamedAs place (Err fault) → ⊥
 fault_named side (Wrong at kept given) place fault e h =
     let w : WrongEntry = record { side = side; number = at.1; kept = kept; given = given } in
-    wrong_said place w (subst (NamedAs place) e h)
+    wrong_line_not_empty place w (subst (NamedAs place) e h)
 fault_named side NoBound place fault e h =
     let named : naming place (Err (plays.Line faults.NoBound)) ≡ [] = subst (NamedAs place) e h in cc
 fault_named side (Mated mover) place fault e h = cc

@@ -36,7 +36,7 @@ use Rattle.frz_atlas_prelude.specs.declared.names.TheConstants.{MOST_BACKS}
 use Rattle.frz_atlas_prelude.specs.BackLines.{back_status}
 use Rattle.frz_atlas_prelude.specs.Ending.{EndsAt, HasSmallPlace}
 use Rattle.frz_atlas_prelude.specs.Names.{has_twice}
-use Rattle.frz_atlas_prelude.proofs.Lemmas.{AnswersAt, Holds, MayEndAt, apart_names_hold, as_many, ended_at, held_rules, judged_exact, may_hold_there, place_refused}
+use Rattle.frz_atlas_prelude.proofs.Lemmas.{AnswersAt, Holds, MayEndAt, apart_names_hold, as_many_as_names, ended_at, held_rules, judged_exact, may_hold_there, place_refused}
 use Rattle.frz_commands_premises.specs.declared.line.Line.{Line}
 use Rattle.frz_commands_premises.specs.Finding.{FindsLines, FindsNone, WithinFinding}
 use Rattle.frz_commands_premises.specs.LineTexts.{IsWritable, line_text}
@@ -159,12 +159,12 @@ module _ (rules : List ℕ) (behind : List (List ℕ)) (apart : has_twice (rules
         h.all.agrees agrees
 
     -- the premises are told
-    pub told_so : (end : End) (after : SinkTold) (told : List Line)
+    pub premises_are_told : (end : End) (after : SinkTold) (told : List Line)
         → FindsLines text lines behind mid new before now told
         → HasAtlasCause {T = List Line} (Ok told) mid new
         → Said Success (flat_map line_text told) end out after
         → Ran (premising_at rules behind) end start (world new input after now)
-    told_so end after told f cause wrote =
+    premises_are_told end after told f cause wrote =
         said (premising_at rules behind) _ _ end start done after
         (quiet_both old new input out before now (quiet_after old mid new quiet more) later)
         (fine_store old new input out before now (fine_after old mid new fine cause)) refl
@@ -260,7 +260,7 @@ pub lines_writable : (text : List ℕ) (rules : RuleLines) (behind : List (List 
     (old new : StoreTold) (before now : ℕ) (lines : List Line) → length behind ≤ MOST_BACKS
     → FindsLines text rules behind old new before now lines → All IsWritable lines
 lines_writable text rules behind old new before now lines few f =
-    let held = as_many old.files behind (all_held f.tables) f.may_all in
+    let held = as_many_as_names old.files behind (all_held f.tables) f.may_all in
     let helds = length-map f.tables (λ t. Some t.bytes) in
     let texts = length-map f.tables text_link_of in
     subst (λ (l : List Line). All IsWritable l) (sym f.told)

@@ -39,19 +39,21 @@ module _ (text : List ℕ) (rules : RuleLines) (behind : List (List ℕ)) (old n
   module _ (backs : List BackTable) (h : OpensAll behind backs old new before then)
       (steps : now ≤ then + (sum_by (λ (back : BackTable). size_of back.table.rules.groups) backs
       + 2 * size_of rules.groups)) where
-    as_many : sum_by (λ (back : BackTable). size_of back.table.rules.groups) backs
+    sizes_sum_to_steps : sum_by (λ (back : BackTable). size_of back.table.rules.groups) backs
         ≡ sum_by steps_of (all_held h.tables)
-    as_many = sizes_loaded backs ∙ ap (sum_by link_size) h.keeps ∙ sizes_checked h.tables h.exact
+    sizes_sum_to_steps = sizes_loaded backs ∙ ap (sum_by link_size) h.keeps
+        ∙ sizes_checked h.tables h.exact
 
     within_opened : WithinFinding rules (all_held h.tables) old new before now
     within_opened =
-        within_more (all_held h.tables) _ h.within (let same = as_many in omega (arith, same)) steps
+        within_more (all_held h.tables) _ h.within
+            (let same = sizes_sum_to_steps in omega (arith, same)) steps
 
     -- the lines are those of the tables and of the rules
-    pub found_so : (lines : List Line) →
+    pub lines_are_found : (lines : List Line) →
         lines ≡ premise_lines text rules (map text_link_loaded backs) →
         FindsLines text rules behind old new before now lines
-    found_so lines told = record {
+    lines_are_found lines told = record {
       tables = h.tables;
       may_all = h.may;
       exact = h.exact;

@@ -31,8 +31,9 @@ module _ (lines : List Line) (i : ℕ) (line : Line) (old mid new : SinkTold)
       (drop-cons lines i line here ∙ ap (λ (x : Line). x ∷ drop (suc i) lines) (sym is)
       ∙ ap (λ n. line ∷ drop n lines) (sym (add-one i)))
 
-  all_is : so_far.written ++ (line_text line ++ others) ≡ flat_map line_text lines
-  all_is = ap (λ (l : List ℕ). so_far.written ++ l) (sym next_written) ∙ so_far.rest
+  written_and_left_are_all : so_far.written ++ (line_text line ++ others) ≡ flat_map line_text lines
+  written_and_left_are_all = ap (λ (l : List ℕ). so_far.written ++ l) (sym next_written)
+      ∙ so_far.rest
 
   -- the sink took the line
   pub more_written : TookText (line_text line) mid new → HasWritten lines (i + 1) old new
@@ -40,7 +41,7 @@ module _ (lines : List Line) (i : ℕ) (line : Line) (old mid new : SinkTold)
     written = so_far.written ++ line_text line;
     took = took_behind so_far.written (line_text line) (so_far.written ++ line_text line) old mid new
         so_far.took refl took;
-    rest = append_assoc so_far.written (line_text line) others ∙ all_is;
+    rest = append_assoc so_far.written (line_text line) others ∙ written_and_left_are_all;
   }
 
   -- the sink failed within it
@@ -50,7 +51,7 @@ module _ (lines : List Line) (i : ℕ) (line : Line) (old mid new : SinkTold)
       failed_before (so_far.written ++ line_text line) others (flat_map line_text lines) old new
       (failed_behind so_far.written (line_text line) (so_far.written ++ line_text line) old mid new
       so_far.took refl failed)
-      (append_assoc so_far.written (line_text line) others ∙ all_is)
+      (append_assoc so_far.written (line_text line) others ∙ written_and_left_are_all)
 
 -- all lines are written
 pub all_written : (lines : List Line) (i : ℕ) (old now : SinkTold) → length lines ≤ i

@@ -83,11 +83,11 @@ holds_first (b ∷ backs) q from k e =
               ∙ ap (told_or b (first_value backs q)) (number_missing b.groups q t) ∙ rest.gives;
         }
 
-none_holds : (backs : List Back) (q : Board) (from : ℕ) →
+held_in_none_unknown : (backs : List Back) (q : Board) (from : ℕ) →
     position_from (λ b. is_member b.groups q) from backs ≡ None → first_value backs q ≡ Unknown
-none_holds [] q from e = none_tell q
-none_holds (b ∷ backs) q from e =
-    by_test (is_member b.groups q) refl e (none_holds backs q (from + 1))
+held_in_none_unknown [] q from e = none_tell q
+held_in_none_unknown (b ∷ backs) q from e =
+    by_test (is_member b.groups q) refl e (held_in_none_unknown backs q (from + 1))
   where
     by_test : (t : Bool) → is_member b.groups q ≡ t →
         cond t (Some from) (position_from (λ x. is_member x.groups q) (from + 1) backs) ≡ None →
@@ -98,10 +98,11 @@ none_holds (b ∷ backs) q from e =
         front_tells b backs q
         ∙ ap (told_or b (first_value backs q)) (number_missing b.groups q t) ∙ more h
 
-some_there : {A : Type 0} (xs : List A) (k : ℕ) → k < length xs → (x : A) × (slice_get xs k ≡ Some x)
-some_there [] k l = absurd (omega arith)
-some_there (x ∷ xs) zero l = (x, refl)
-some_there (x ∷ xs) (suc k) l = some_there xs k (omega arith)
+place_has_element : {A : Type 0} (xs : List A) (k : ℕ) → k < length xs
+    → (x : A) × (slice_get xs k ≡ Some x)
+place_has_element [] k l = absurd (omega arith)
+place_has_element (x ∷ xs) zero l = (x, refl)
+place_has_element (x ∷ xs) (suc k) l = place_has_element xs k (omega arith)
 
 module _ (text : List ℕ) (rules : RuleLines) (accepted : rules_of text ≡ Ok rules)
     (backs : List Back) (q : Board) where
@@ -126,7 +127,7 @@ module _ (text : List ℕ) (rules : RuleLines) (accepted : rules_of text ≡ Ok 
       let first = fits.1 in
       let many = as_many_lines text rules accepted in
       let below = slice_get_within rules.exits k fits.0 first.there in
-      let n = some_there numbers k (omega arith) in
+      let n = place_has_element numbers k (omega arith) in
       record {
         fits = fits.0;
         number = n.0;
@@ -171,7 +172,7 @@ module _ (text : List ℕ) (rules : RuleLines) (accepted : rules_of text ≡ Ok 
       (by_tables unknown ∙ h.gives)
   by_back None e unknown =
       by_line (line_at rules.exits q) refl
-      (by_tables unknown ∙ none_holds backs q 0 e ∙ sym unknown) (λ _. e)
+      (by_tables unknown ∙ held_in_none_unknown backs q 0 e ∙ sym unknown) (λ _. e)
 
   by_value : (u : Bool) → is_unknown (value_by rules q) ≡ u →
       Told (cond u (back_at backs q) None) (number_at numbers rules.exits q)

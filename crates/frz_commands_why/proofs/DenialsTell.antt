@@ -43,10 +43,11 @@ Arms = List (Arm Step ℕ Value)
 take_next : {A : Type 0} (x : A) (xs : List A) (n : ℕ) → take (1 + n) (x ∷ xs) ≡ x ∷ take n xs
 take_next x xs n = let more : 1 + n ≡ suc n = omega arith in ap (λ k. take k (x ∷ xs)) more
 
-none_found : {A : Type 0} (p : A → Bool) (xs : List A) → find (λ x. not (p x)) xs ≡ None →
+none_failing_all_taken : {A : Type 0} (p : A → Bool) (xs : List A)
+    → find (λ x. not (p x)) xs ≡ None →
     take_while p xs ≡ xs
-none_found p [] e = refl
-none_found p (x ∷ xs) e = by_test (p x) refl e (none_found p xs)
+none_failing_all_taken p [] e = refl
+none_failing_all_taken p (x ∷ xs) e = by_test (p x) refl e (none_failing_all_taken p xs)
   where
     by_test : (b : Bool) → p x ≡ b → cond (not b) (Some x) (find (λ y. not (p y)) xs) ≡ None →
         (find (λ y. not (p y)) xs ≡ None → take_while p xs ≡ xs) →
@@ -174,9 +175,9 @@ arm_free : (rules : RuleLines) (value : Board → Value) (p : Board) (m : Step) 
 unfolding arm_at
 arm_free rules value p m = refl
 
-not_is : (b : Bool) → not b ≡ true → b ≡ false
-not_is true e = absurd cc
-not_is false e = refl
+not_true_is_false : (b : Bool) → not b ≡ true → b ≡ false
+not_true_is_false true e = absurd cc
+not_true_is_false false e = refl
 
 filter_same : {A : Type 0} (f g : A → Bool) → ((x : A) → f x ≡ g x) → (xs : List A) →
     filter f xs ≡ filter g xs
@@ -218,7 +219,7 @@ module _ (rules : RuleLines) (value : Board → Value) (side : Colour) (codes : 
             subst (λ (x : Step). Contains (legal_moves_of q) x) same m.1,
             ap (λ (x : Step). wins_behind rules value side codes q x) (sym same)
                 ∙ ap (λ (x : Arm Step ℕ Value). is_win (arm_code side codes x)) m.2
-                ∙ not_is (is_win (arm_code side codes b)) found.1,
+                ∙ not_true_is_false (is_win (arm_code side codes b)) found.1,
           )
 
   -- where none is found, no legal reply leaves the side no win
@@ -300,7 +301,7 @@ module _ (rules : RuleLines) (value : Board → Value) (side : Colour) (codes : 
           let right : leads_right graph side codes a ≡ true =
           ap (is_none {T = WrongEntry}) none in
           absurd (let no : true ≡ false = sym right
-          ∙ not_is (leads_right graph side codes a) found.1 in cc)
+          ∙ not_true_is_false (leads_right graph side codes a) found.1 in cc)
 
   own_moves : (xs : Arms) → map (λ d. d.mv) (map (own_denial graph side codes) xs)
       ≡ map (λ a. a.mv) xs
@@ -379,7 +380,7 @@ module _ (rules : RuleLines) (value : Board → Value) (side : Colour) (codes : 
     denials_are denials w (own agrees going) none =
         let xs = filter (λ (a : Arm Step ℕ Value). a.free) (graph.arms number) in
         let all : take_while (leads_right graph side codes) xs ≡ xs =
-        none_found (leads_right graph side codes) xs (none_wrong_found xs none) in
+        none_failing_all_taken (leads_right graph side codes) xs (none_wrong_found xs none) in
         let turn = mover_is rules value side codes number p at side going in
         subst (λ (l : Arms). AreDenials rules value side codes p
         (map (own_denial graph side codes) l)) (sym all) (record {

@@ -12,7 +12,7 @@ use Rattle.frz_atlas.specs.declared.fault.BackFault.TheVariants.{Refused, Wrong}
 use Rattle.frz_atlas.proofs.Lemmas.{may_hold_some, some_helds, unopened_below}
 use Rattle.frz_atlas_prelude.specs.declared.names.TheConstants.{MOST_BACKS}
 use Rattle.frz_atlas_prelude.specs.Ending.{HasSmallPlace}
-use Rattle.frz_atlas_prelude.proofs.Lemmas.{as_many}
+use Rattle.frz_atlas_prelude.proofs.Lemmas.{as_many_as_names}
 use Rattle.frz_commands_why.specs.Loading.{IsUnopened, RefusesTables, WithinOwn}
 
 -- a refusal of the table's own file is one
@@ -65,5 +65,5 @@ pub small_unloaded : (table : List ℕ) (behind : List (List ℕ)) (old new : St
     (fault : AtlasFault) → length behind ≤ MOST_BACKS →
     RefusesTables table behind old new fault → HasSmallPlace fault
 small_unloaded table behind old new fault few h =
-    let many = as_many old.files behind h.helds h.may_all in
+    let many = as_many_as_names old.files behind h.helds h.may_all in
     small_place h.held h.helds fault (omega (arith, many, few)) h.refuses

@@ -22,9 +22,9 @@ mover_is_either_side White Black = inr refl
 mover_is_either_side Black White = inr refl
 mover_is_either_side Black Black = inl refl
 
-not_other : (side : Colour) → side ≡ other_of side → ⊥
-not_other White e = cc
-not_other Black e = cc
+sides_differ : (side : Colour) → side ≡ other_of side → ⊥
+sides_differ White e = cc
+sides_differ Black e = cc
 
 mated_code : (mine : Bool) (code : ℕ) → code ≡ (if mine then 3 else 2) → code ≡ 1 → ⊥
 mated_code true code e hold = omega arith
@@ -84,7 +84,7 @@ module _ (arena : Arena Step ℕ Value) (side : Colour) (codes : List ℕ) (numb
   both_turns : arena.node number ≡ Going side → arena.node number ≡ Going (other_of side) → ⊥
   both_turns n m =
       let e : Going side ≡ Going (other_of side) = sym n ∙ m in
-      let same : side ≡ other_of side = cc in not_other side same
+      let same : side ≡ other_of side = cc in sides_differ side same
 
   ends_and_goes : (m c : Colour) → arena.node number ≡ Stalemate m → arena.node number ≡ Going c →
       ⊥

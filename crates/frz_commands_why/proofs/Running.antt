@@ -42,7 +42,7 @@ use Rattle.frz_prelude.specs.declared.refused.Refused.TheVariants as refusals
 use Rattle.frz_prelude.proofs.Lemmas.{found_where, refusal_said, table_own}
 use Rattle.frz_atlas_prelude.specs.Ending.{EndsAt}
 use Rattle.frz_atlas_prelude.specs.Names.{has_twice}
-use Rattle.frz_atlas_prelude.proofs.Lemmas.{AnswersAt, Holds, MayEndAt, apart_names_hold, back_said, ended_at}
+use Rattle.frz_atlas_prelude.proofs.Lemmas.{AnswersAt, Holds, MayEndAt, apart_names_hold, back_line_not_empty, ended_at}
 use Rattle.frz_exit_lines.specs.Numbers.{exit_numbers_of}
 use Rattle.frz_commands_why.specs.Asking.{asking_at}
 use Rattle.frz_commands_why.specs.Costs.{steps_by, why_costs}
@@ -116,7 +116,7 @@ module _ (there : WayThere) (side : Colour) (p : Board) (files : Files) where
   some_by (Ok contents) bytes (Err refused) = record {
     a = _;
     answer = refl;
-    text = back_said refused.0 (Refused refused.1);
+    text = back_line_not_empty refused.0 (Refused refused.1);
   }
   some_by (Err fault) bytes y = record {
     a = _;
@@ -278,9 +278,9 @@ module _ (there : WayThere) (table : List ℕ) (behind : List (List ℕ))
           costs = spent_within_costs (Some l.bytes) (all_held l.tables) h l.within same_steps;
         })
 
-    pub told_so : (end : End) (after : SinkTold) → StoreFine old new
+    pub why_is_told : (end : End) (after : SinkTold) → StoreFine old new
         → EndsIn given backs side p end out after → Ran job end start (world new input after now)
-    told_so end after fine ends =
+    why_is_told end after fine ends =
         by_member (is_member contents.rules.groups p) refl end after fine ends
 
   -- something is refused, or could not be read

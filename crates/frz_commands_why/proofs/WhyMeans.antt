@@ -40,7 +40,7 @@ use Rattle.frz_prelude.specs.BoundLines.{kept_line}
 use Rattle.frz_prelude.specs.Refusals.{refusal_line, status_of}
 use Rattle.frz_prelude.specs.declared.refused.Refused.TheVariants as refusals
 use Rattle.frz_prelude.proofs.Lemmas.{by_table_status}
-use Rattle.frz_atlas_prelude.proofs.Lemmas.{not_both}
+use Rattle.frz_atlas_prelude.proofs.Lemmas.{result_is_not_both}
 use Rattle.frz_reasons.specs.declared.denial.Denial.{Denial}
 use Rattle.frz_reasons.specs.declared.reason.Reason.{Reason}
 use Rattle.frz_reasons.specs.declared.reason.Reason.TheVariants.{Wrong, Mated, Renounced, Left}
@@ -98,8 +98,8 @@ bound_some (Wins n) e = omega arith
 bound_some Holds e = omega arith
 bound_some (Fails m) e = omega arith
 
-no_more : (line text : List ℕ) → line ++ (text ++ []) ≡ line ++ text
-no_more line text = ap (λ (l : List ℕ). line ++ l) (append-nil text)
+empty_end_dropped : (line text : List ℕ) → line ++ (text ++ []) ≡ line ++ text
+empty_end_dropped line text = ap (λ (l : List ℕ). line ++ l) (append-nil text)
 
 -- the values behind exit lines, whether tables stand behind them or not
 as_atlas : (leaning : Bool) (rules : RuleLines) (backs : List Back) (q : Board) →
@@ -107,8 +107,8 @@ as_atlas : (leaning : Bool) (rules : RuleLines) (backs : List Back) (q : Board) 
 as_atlas true rules backs q = refl
 as_atlas false rules backs q = lines_alone rules q
 
-not_right : (w : WrongEntry) → IsRight (Wrong w) → ⊥
-not_right w h = h
+wrong_is_not_right : (w : WrongEntry) → IsRight (Wrong w) → ⊥
+wrong_is_not_right w h = h
 
 module _ (laws : WayLaws) (table : List ℕ) (behind : List (List ℕ)) (side : Colour) (p : Board)
     (files : Files) (a : Answer) where
@@ -187,7 +187,7 @@ module _ (laws : WayLaws) (table : List ℕ) (behind : List (List ℕ)) (side : 
     text_is : (text : List ℕ)
         → a ≡ says (status_by None) (why_text side code text None) files
         → a.text ≡ kept_line side code ++ text
-    text_is text e = ap (λ (x : Answer). x.text) e ∙ no_more (kept_line side code) text
+    text_is text e = ap (λ (x : Answer). x.text) e ∙ empty_end_dropped (kept_line side code) text
 
     -- what decided a value outside
     decided_so : (q : Board) (v : Value) → v ≡ value q
@@ -326,7 +326,7 @@ module _ (laws : WayLaws) (table : List ℕ) (behind : List (List ℕ)) (side : 
       → IsWhyBehind contents (unwrap_or held []) (opened_all (map files behind)) side p files a
       → MeansWhy table behind side p files a
   by_held None there contents opens h =
-      absurd (not_both _ contents table_faults.Missing opens (opened_missing _))
+      absurd (result_is_not_both _ contents table_faults.Missing opens (opened_missing _))
   by_held (Some bytes) there contents opens h =
       by_behind bytes contents there opens (opened_all (map files behind)) refl h
 

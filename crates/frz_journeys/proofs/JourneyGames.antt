@@ -19,7 +19,7 @@ use Rattle.frz_ways.specs.declared.opponent.Opponent.{Opponent}
 use Rattle.frz_ways.specs.ChessGames.{IsGame, after_plies}
 use Rattle.frz_ways.specs.Reading.{Input}
 use Rattle.frz_ways.specs.Ways.{WayPly, EndOfWay, GoesOn}
-use Rattle.frz_ways.proofs.Lemmas.{at_in}
+use Rattle.frz_ways.proofs.Lemmas.{placed_is_contained}
 use Rattle.frz_journeys.specs.declared.place.Place.{Place}
 use Rattle.frz_journeys.specs.declared.place.Place.TheVariants.{Behind}
 use Rattle.frz_journeys.specs.JourneyGames.{AreLegalFrom, AtEach, IsGameBy, moves_of}
@@ -46,7 +46,7 @@ legal_game : MovesListed → (rules : RuleLines) (side : Colour) (plies : List W
     → AreLegalFrom p (map (λ x. x.arm.mv) plies ++ rest)
 legal_game listed rules side [] p rest game more = more
 legal_game listed rules side (x ∷ plies) p rest game more = (
-  ((listed p x.arm.mv).0 (at_in (legal_moves_of p) x.place x.arm.mv game.0.legal)).1,
+  ((listed p x.arm.mv).0 (placed_is_contained (legal_moves_of p) x.place x.arm.mv game.0.legal)).1,
   legal_game listed rules side plies (after p x.arm.mv) rest game.1 more,
 )
 

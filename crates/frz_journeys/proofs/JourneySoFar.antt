@@ -380,9 +380,10 @@ module _ (opponent : Opponent) (side : Colour) (before : List BackTable) (table 
               later_turns stage (second ∷ stages) steps now after h.1 r.1,
             )
 
-        pub went_on : PlaysFrom old later (bytes ++ more) ((place_line place ++ text) ++ written)
+        pub journey_went_on : PlaysFrom old later (bytes ++ more)
+            ((place_line place ++ text) ++ written)
             arrival steps after
-        went_on = λ left may stages last j. by_stages left may stages last
+        journey_went_on = λ left may stages last j. by_stages left may stages last
             (subst (λ (l : List ℕ). IsJourney opponent side tables own place p
             (record { left = l; more = old.more }) stages last) (append_assoc bytes more left) j)
           where

@@ -12,10 +12,10 @@ not_empty : (front : List WayPly) (x : WayPly) → front ++ x ∷ [] ≡ [] → 
 not_empty [] x e = cc
 not_empty (y ∷ front) x e = cc
 
-pub after_last : (front : List WayPly) (p : Board) (x : WayPly)
+pub after_last_ply : (front : List WayPly) (p : Board) (x : WayPly)
     → after_plies p (front ++ x ∷ []) ≡ after (after_plies p front) x.arm.mv
-after_last [] p x = refl
-after_last (y ∷ front) p x = after_last front (after p y.arm.mv) x
+after_last_ply [] p x = refl
+after_last_ply (y ∷ front) p x = after_last_ply front (after p y.arm.mv) x
 
 module _ (rules : RuleLines) (side : Colour) where
   game_last : (front : List WayPly) (p : Board) (x : WayPly)

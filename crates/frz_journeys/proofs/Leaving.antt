@@ -24,9 +24,9 @@ use Rattle.frz_ways.specs.PlayLoaded.{PlaysLoaded}
 use Rattle.frz_ways.specs.PlayWay.{LeftBy}
 use Rattle.frz_ways.specs.Reading.{Input}
 use Rattle.frz_ways.specs.Ways.{WayPly, EndOfWay, GoesOn}
-use Rattle.frz_ways.proofs.Lemmas.{at_in}
+use Rattle.frz_ways.proofs.Lemmas.{placed_is_contained}
 use Rattle.frz_journeys.specs.Onward.{CanMove, LeftLegally, left_to}
-use Rattle.frz_journeys.proofs.LastPly.{after_last, last_ply}
+use Rattle.frz_journeys.proofs.LastPly.{after_last_ply, last_ply}
 
 -- what all ways by these codes from a number are
 module _ (rules : RuleLines) (value : Board → Value) (opponent : Opponent) (side : Colour)
@@ -55,7 +55,8 @@ module _ (rules : RuleLines) (value : Board → Value) (opponent : Opponent) (si
     position = p;
     there = subst (λ (n : ℕ). position_at rules.groups n ≡ Some p) from ply.here;
     legal = subst (λ (m : Step). is_legal p m ≡ true) is
-        ((listed p x.arm.mv).0 (at_in (legal_moves_of p) x.place x.arm.mv ply.legal)).1;
+        ((listed p x.arm.mv).0
+        (placed_is_contained (legal_moves_of p) x.place x.arm.mv ply.legal)).1;
   }
 
   -- a way leaves its set by a legal move
@@ -93,5 +94,5 @@ module _ (rules : RuleLines) (value : Board → Value) (opponent : Opponent) (si
       subst (λ (n : ℕ). position_at rules.groups n ≡ Some (after_plies p left.0)) left.3 ply.here in
       ap (option_map (λ (b : Board). after b move)) there
       ∙ ap (λ (m : Step). Some (after (after_plies p left.0) m)) (sym left.4)
-      ∙ ap Some (sym (after_last left.0 p left.1))
+      ∙ ap Some (sym (after_last_ply left.0 p left.1))
       ∙ ap (λ (l : List WayPly). Some (after_plies p l)) (sym left.2)

@@ -84,16 +84,18 @@ module _ (numbering : (rules : RuleLines) (value : Board → Value)
       (subst (λ (x : EndOfWay). GoesOn (arena_over before table) opponent side
       (λ k. codes_of side table) 0 input stage.number stage.plies x left) e is.way)
 
-  pub right_on : (before : List Link) (table : Link) (place : Place) (p : Board) (input : Input)
+  pub right_at_last : (before : List Link) (table : Link) (place : Place) (p : Board)
+      (input : Input)
       (stages : List Stage) (left : Input) → IsExactOver before table → Member table.rules.groups p
       → IsJourney opponent side before table place p input stages left
       → AtLast EndsRight before table stages
-  right_on before table place p input [] left exact member j = absurd j
-  right_on before table place p input (stage ∷ stages) left exact member j =
+  right_at_last before table place p input [] left exact member j = absurd j
+  right_at_last before table place p input (stage ∷ stages) left exact member j =
       at_last opponent side EndsRight before table p stage stages j.0 left j.1.from
       (λ none. stage_right before table place p input stage j.0 exact member j.1)
       (λ next e h.
       let on = is_onward before table p stage.plies stage.end next e in
       let there = exact_at [] before next.0 next.1 exact.behind on.at.there in
-      right_on (take next.0 before) next.1 (Behind next.0) (after_plies p stage.plies) j.0 stages left
+      right_at_last (take next.0 before) next.1 (Behind next.0) (after_plies p stage.plies) j.0
+      stages left
       (record { behind = there.1; own = there.0 }) on.at.holds h) j.2

@@ -33,7 +33,7 @@ use Rattle.frz_journeys.specs.Onward.{GoesOnward}
 use Rattle.frz_journeys.specs.Playing.{PlaysJourney}
 use Rattle.frz_journeys.specs.Tables.{arena_over, codes_of}
 use Rattle.frz_journeys.proofs.Leaving.{AreGames}
-use Rattle.frz_journeys.proofs.JourneySoFar.{ended_here, went_on}
+use Rattle.frz_journeys.proofs.JourneySoFar.{ended_here, journey_went_on}
 use Rattle.frz_journeys.proofs.StageWritten.{PlayedBehind, line_lines}
 
 module _ (opponent : Opponent) (side : Colour) (before : List BackTable) (table : BackTable)
@@ -103,7 +103,8 @@ module _ (opponent : Opponent) (side : Colour) (before : List BackTable) (table 
         wrote_after (place_line place ++ w.0) v.0 arrival.answer out between taken w.3 v.3,
         took_on w.1 v.1 source mid left w.4 v.4,
         stays_on old new later w.1 v.1 w.5 v.5,
-        λ p has. went_on opponent side before table place start p has old new w.1 w.0 steps now games
+        λ p has. journey_went_on opponent side before table place start p has old new w.1 w.0 steps
+        now games
             number move value w.6 entry onwards next there later v.1 v.0 arrival after v.5 v.6,
       )
 

@@ -32,17 +32,18 @@ all_true links exact holds =
     text_by_text [] [] links (All-nil Proves) (All-nil TellsTrue) exact holds
 
 -- none of two parts
-no_part : (m n : ℕ) → m + n ≡ 0 → (m ≡ 0) × (n ≡ 0)
-no_part m n h = (omega arith, omega arith)
+both_parts_are_zero : (m n : ℕ) → m + n ≡ 0 → (m ≡ 0) × (n ≡ 0)
+both_parts_are_zero m n h = (omega arith, omega arith)
 
-none_over : (before links : List Link) → believed_over before links ≡ 0 →
+none_believed_beliefs_hold : (before links : List Link) → believed_over before links ≡ 0 →
     BeliefsHoldOver before links
 unfolding believed_over BeliefsHoldOver
-none_over before [] none = tt
-none_over before (link ∷ links) none =
-    let parts = no_part _ _ none in
-    (none_holds link.rules before parts.0, none_over (before ++ link ∷ []) links parts.1)
+none_believed_beliefs_hold before [] none = tt
+none_believed_beliefs_hold before (link ∷ links) none =
+    let parts = both_parts_are_zero _ _ none in
+    (none_holds link.rules before parts.0,
+    none_believed_beliefs_hold (before ++ link ∷ []) links parts.1)
 
 -- where no line of the tables is believed, what is believed holds
 pub none_hold : (links : List Link) → believed_in links ≡ 0 → BeliefsHold links
-none_hold links none = none_over [] links none
+none_hold links none = none_believed_beliefs_hold [] links none

@@ -42,24 +42,24 @@ use Rattle.frz_premises.proofs.Exits.{exits_are_listed}
 use Rattle.frz_premises.proofs.InLists.{in_map}
 use Rattle.frz_premises.proofs.Numbering.{outside_more}
 
-each_of : {X : Type 0} (test : X → Bool) (xs : List X) (x : X) → list_all test xs ≡ true →
+each_passes_all : {X : Type 0} (test : X → Bool) (xs : List X) (x : X) → list_all test xs ≡ true →
     Contains xs x → test x ≡ true
-each_of test [] x h i = absurd (none_in_empty x i)
-each_of test (y ∷ xs) x h i =
+each_passes_all test [] x h i = absurd (none_in_empty x i)
+each_passes_all test (y ∷ xs) x h i =
     let both = and_parts (test y) (list_all test xs) h in
     elim (in_cases y xs x i) [
       | inl e ↦ sym (ap test e) ∙ both.0
-      | inr j ↦ each_of test xs x both.1 j
+      | inr j ↦ each_passes_all test xs x both.1 j
     ]
 
-none_of : {X : Type 0} (test : X → Bool) (xs : List X) (x : X) → list_any test xs ≡ false →
+none_passes_any : {X : Type 0} (test : X → Bool) (xs : List X) (x : X) → list_any test xs ≡ false →
     Contains xs x → test x ≡ false
-none_of test [] x h i = absurd (none_in_empty x i)
-none_of test (y ∷ xs) x h i =
+none_passes_any test [] x h i = absurd (none_in_empty x i)
+none_passes_any test (y ∷ xs) x h i =
     let both = or_parts (test y) (list_any test xs) h in
     elim (in_cases y xs x i) [
       | inl e ↦ sym (ap test e) ∙ both.0
-      | inr j ↦ none_of test xs x both.1 j
+      | inr j ↦ none_passes_any test xs x both.1 j
     ]
 
 module _ (rules : RuleLines) (value : Board → Value) where
@@ -69,16 +69,19 @@ module _ (rules : RuleLines) (value : Board → Value) where
   its_value q x = in_map value (outside_of rules.groups) q (exits_are_listed rules value q x)
 
   pub decided_outside : (exits_tell rules value).decided ≡ true → AreDecidedOutside rules value
-  decided_outside h q x = each_of is_decided (values_of rules value) (value q) h (its_value q x)
+  decided_outside h q x = each_passes_all is_decided (values_of rules value) (value q) h
+      (its_value q x)
 
   pub none_bad : (side : Colour) → bad_for (exits_tell rules value) side ≡ false →
       NoneIsBad (game_of rules value) side
   none_bad White h q x bad =
-      let no = none_of (λ (v : Value). is_bad (class_of v White)) (values_of rules value) (value q)
+      let no = none_passes_any (λ (v : Value). is_bad (class_of v White)) (values_of rules value)
+      (value q)
       h (its_value q x) in
       let yes : is_bad (class_of (value q) White) ≡ true = ap is_bad bad in cc
   none_bad Black h q x bad =
-      let no = none_of (λ (v : Value). is_bad (class_of v Black)) (values_of rules value) (value q)
+      let no = none_passes_any (λ (v : Value). is_bad (class_of v Black)) (values_of rules value)
+      (value q)
       h (its_value q x) in
       let yes : is_bad (class_of (value q) Black) ≡ true = ap is_bad bad in cc
 
@@ -171,18 +174,18 @@ nothing_bad_where_exact rules believed values side h =
     exact_by (nat_lt 0 believed) (renounces rules side) values side h
 
 -- values, one by one
-all_one : (test : Value → Bool) (vs : List Value) (v : Value) →
+all_with_one_more : (test : Value → Bool) (vs : List Value) (v : Value) →
     list_all test (vs ++ v ∷ []) ≡ (list_all test vs && test v)
-all_one test vs v =
+all_with_one_more test vs v =
     list_all-append test vs (v ∷ []) ∙ ap (λ b. list_all test vs && b) (and_true (test v))
   where
     and_true : (b : Bool) → (b && true) ≡ b
     and_true true = refl
     and_true false = refl
 
-any_one : (test : Value → Bool) (vs : List Value) (v : Value) →
+any_with_one_more : (test : Value → Bool) (vs : List Value) (v : Value) →
     list_any test (vs ++ v ∷ []) ≡ (list_any test vs || test v)
-any_one test vs v =
+any_with_one_more test vs v =
     list_any-append test vs (v ∷ []) ∙ ap (λ b. list_any test vs || b) (or_false (test v))
   where
     or_false : (b : Bool) → (b || false) ≡ b
@@ -205,11 +208,12 @@ one_told vs v told d w b is p q r =
     equal_fields_equal_values d w b (list_all is_decided (vs ++ v ∷ []))
     (list_any (λ x. is_bad (class_of x White)) (vs ++ v ∷ []))
     (list_any (λ x. is_bad (class_of x Black)) (vs ++ v ∷ []))
-    (p ∙ ap (λ (t : ExitValues). t.decided && is_decided v) is ∙ sym (all_one is_decided vs v))
+    (p ∙ ap (λ (t : ExitValues). t.decided && is_decided v) is
+    ∙ sym (all_with_one_more is_decided vs v))
     (q ∙ ap (λ (t : ExitValues). t.bad_for_white || is_bad (class_of v White)) is
-    ∙ sym (any_one (λ x. is_bad (class_of x White)) vs v))
+    ∙ sym (any_with_one_more (λ x. is_bad (class_of x White)) vs v))
     (r ∙ ap (λ (t : ExitValues). t.bad_for_black || is_bad (class_of v Black)) is
-    ∙ sym (any_one (λ x. is_bad (class_of x Black)) vs v))
+    ∙ sym (any_with_one_more (λ x. is_bad (class_of x Black)) vs v))
 
 pub values_step : (arms : List (Arm Step ℕ Value)) (i : ℕ) (a : Arm Step ℕ Value) →
     i < length arms → a ≡ get_or arms i a →

@@ -90,14 +90,14 @@ winning_value_is_numbered Unknown side u g = absurd (cc)
 winning_value_is_numbered (WhiteWinsIn n) side u g = refl
 winning_value_is_numbered (BlackWinsIn n) side u g = refl
 
-none_at : (test : ExitLine → Bool) (lines : List ExitLine) (i : ℕ) (line : ExitLine) →
+none_passes_at_place : (test : ExitLine → Bool) (lines : List ExitLine) (i : ℕ) (line : ExitLine) →
     list_any test lines ≡ false → slice_get lines i ≡ Some line → test line ≡ false
-none_at test [] i line h e = absurd (cc)
-none_at test (x ∷ lines) zero line h e =
+none_passes_at_place test [] i line h e = absurd (cc)
+none_passes_at_place test (x ∷ lines) zero line h e =
     let same : x ≡ line = cc in
     sym (ap test same) ∙ (or_parts (test x) (list_any test lines) h).0
-none_at test (x ∷ lines) (suc i) line h e =
-    none_at test lines i line (or_parts (test x) (list_any test lines) h).1 e
+none_passes_at_place test (x ∷ lines) (suc i) line h e =
+    none_passes_at_place test lines i line (or_parts (test x) (list_any test lines) h).1 e
 
 numbered_by : (leans : Bool) (rules : RuleLines) (before : List Back) (side : Colour) →
     not (leans || list_any (λ line. is_uncounted line.value side) rules.exits) ≡ true →
@@ -108,7 +108,8 @@ numbered_by false rules before side h = λ q x good.
     elim (first_cases rules.exits q) [
       | inl unknown ↦ absurd (let e = sym (ap (λ v. class_of v side) unknown) ∙ good in cc)
       | inr (i, line, decides, first) ↦ (
-          let u = none_at (λ l. is_uncounted l.value side) rules.exits i line none first.there in
+          let u = none_passes_at_place (λ l. is_uncounted l.value side) rules.exits i line none
+          first.there in
           let g = sym (ap (λ v. class_of v side) first.value) ∙ good in
           ap is_numbered first.value ∙ winning_value_is_numbered line.value side u g)
     ])

@@ -29,9 +29,9 @@ use Rattle.frz_premises.specs.Saying.{none_says, says_as_much, says_at_each}
 use Rattle.frz_premises.specs.Trials.{AreTried, IsHeard, IsTried, boards_after, is_outside, is_some_there}
 use Rattle.frz_premises.proofs.FirstLines.{decides_first}
 
-some_more : (qs : List Board) (q : Board) → is_some_there (qs ++ q ∷ []) ≡ true
-some_more [] q = refl
-some_more (x ∷ qs) q = refl
+some_there_with_more : (qs : List Board) (q : Board) → is_some_there (qs ++ q ∷ []) ≡ true
+some_there_with_more [] q = refl
+some_there_with_more (x ∷ qs) q = refl
 
 and_true : (b : Bool) → (b && true) ≡ b
 and_true true = refl
@@ -66,9 +66,9 @@ module _ (links : List Link) (v : Value) (qs : List Board) (q : Board) where
       sym (need_more e ∙ (rw told refl))
 
 -- which tables said as much at each exit, after one more
-one_more : (v : Value) (qs : List Board) (q : Board) (link : Link) →
+says_with_one_more : (v : Value) (qs : List Board) (q : Board) (link : Link) →
     says_at_each v (qs ++ q ∷ []) link ≡ (says_at_each v qs link && says_as_much v link q)
-one_more v qs q link =
+says_with_one_more v qs q link =
     list_all-append (says_as_much v link) qs (q ∷ [])
     ∙ ap (λ b. says_at_each v qs link && b) (and_true (says_as_much v link q))
 
@@ -96,7 +96,7 @@ says_more v qs q (first ∷ backs) old new many was heard =
     ∙ ap₂ ◌&&◌ (ap (λ (bs : List Bool). get_or bs i false) was
     ∙ get_or-map (says_at_each v qs) links i (link_loaded first) false there)
     (ap (λ (k : Link). says_as_much v k q) (sym is))
-    ∙ sym (one_more v qs q link)
+    ∙ sym (says_with_one_more v qs q link)
     ∙ sym (get_or-map (says_at_each v (qs ++ q ∷ [])) links i (link_loaded first) false there)))
 
 -- one exit noted for a line
@@ -175,7 +175,7 @@ module _ (backs : List BackTable) (line : ExitLine) (qs : List Board) (q : Board
       IsTried groups (map link_loaded backs) line (qs ++ q ∷ []) new
   noted_trial_is_tried groups tried same some many step = record {
     settled = same ∙ tried.settled;
-    has_exits = some ∙ sym (some_more qs q);
+    has_exits = some ∙ sym (some_there_with_more qs q);
     many = many ∙ sym (length-map backs link_loaded);
     heard = λ none. step (sym same ∙ none) (tried.heard (sym same ∙ none));
   }
@@ -271,14 +271,15 @@ pub place_below : (lines : List ExitLine) (q : Board) (i : ℕ) → Some i ≡ l
     (line : ExitLine) × (i < length lines)
 place_below lines q i at =
     let first = decides_first lines q i (sym (ap (is_place i) at) ∙ eq-eqb i i refl) in
-    (first.0, below_there lines i first.0 first.1.there)
+    (first.0, found_is_below_length lines i first.0 first.1.there)
   where
-    below_there : (ls : List ExitLine) (k : ℕ) (line : ExitLine) → slice_get ls k ≡ Some line →
+    found_is_below_length : (ls : List ExitLine) (k : ℕ) (line : ExitLine)
+        → slice_get ls k ≡ Some line →
         k < length ls
-    below_there [] k line e = absurd (cc)
-    below_there (x ∷ ls) zero line e = omega arith
-    below_there (x ∷ ls) (suc k) line e =
-        let l = below_there ls k line e in omega arith
+    found_is_below_length [] k line e = absurd (cc)
+    found_is_below_length (x ∷ ls) zero line e = omega arith
+    found_is_below_length (x ∷ ls) (suc k) line e =
+        let l = found_is_below_length ls k line e in omega arith
 
 module _ (rules : RuleLines) (links : List Link) (qs : List Board) (q : Board)
     (trials : List Trial) (tried : AreTried rules links qs trials) where

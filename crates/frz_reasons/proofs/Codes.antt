@@ -19,20 +19,20 @@ win_itself_no_failure c w f = grind (arith, nat_tests)
 pub failure_least : (c : ℕ) → is_failure c ≡ true → 3 ≤ c
 failure_least c f = grind (arith, nat_tests)
 
-pub both_of : (a b : Bool) → (a && b) ≡ true → (a ≡ true) × (b ≡ true)
-both_of true true e = (refl, refl)
-both_of true false e = absurd (cc)
-both_of false b e = absurd (cc)
+pub both_true_of_and : (a b : Bool) → (a && b) ≡ true → (a ≡ true) × (b ≡ true)
+both_true_of_and true true e = (refl, refl)
+both_true_of_and true false e = absurd (cc)
+both_true_of_and false b e = absurd (cc)
 
-pub as_both : (a b : Bool) → a ≡ true → b ≡ true → (a && b) ≡ true
-as_both a b e f = rw (e, f) refl
+pub and_true_of_both : (a b : Bool) → a ≡ true → b ≡ true → (a && b) ≡ true
+and_true_of_both a b e f = rw (e, f) refl
 
 pub not_false : (a : Bool) → a ≡ false → not a ≡ true
 not_false a e = rw e refl
 
-pub not_true : (a : Bool) → not a ≡ true → a ≡ false
-not_true true e = absurd (cc)
-not_true false e = refl
+pub not_true_is_false : (a : Bool) → not a ≡ true → a ≡ false
+not_true_is_false true e = absurd (cc)
+not_true_is_false false e = refl
 
 -- the mover is the side or its opponent
 pub mover_is_either_side : (side mover : Colour) → (mover ≡ side) ⊎ (mover ≡ other_of side)
@@ -49,6 +49,6 @@ pub other_side : (side : Colour) → same_colour (other_of side) side ≡ false
 other_side White = refl
 other_side Black = refl
 
-pub not_other : (side : Colour) → side ≡ other_of side → ⊥
-not_other White e = cc
-not_other Black e = cc
+pub sides_differ : (side : Colour) → side ≡ other_of side → ⊥
+sides_differ White e = cc
+sides_differ Black e = cc

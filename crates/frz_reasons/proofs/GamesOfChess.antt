@@ -29,7 +29,7 @@ use Rattle.frz_reasons.specs.declared.reason.Reason.{Reason}
 use Rattle.frz_reasons.specs.FailingWays.{IsPlayedAt, FailsFrom, wrong, mated, renounced, leaves, goes_on}
 use Rattle.frz_reasons.specs.FailingGames.{IsGameFrom, EndsAt, HasRenounced, position_behind}
 use Rattle.frz_reasons.proofs.Codes.{same_side}
-use Rattle.frz_reasons.proofs.MovePlayed.{played_arm, as_one}
+use Rattle.frz_reasons.proofs.MovePlayed.{played_arm, candidate_is_free_and_coded}
 
 -- who is to move
 mover_of : (b : Bool) (ms : List Step) (check : Bool) (turn mover : Colour)
@@ -88,9 +88,9 @@ in_mapped f (y ∷ xs) x h =
       | inr i ↦ later_in (f y) (map f xs) (f x) (in_mapped f xs x i)
     ]
 
-no_true : (b : Bool) → (b ≡ true → ⊥) → b ≡ false
-no_true true h = absurd (h refl)
-no_true false h = refl
+never_true_is_false : (b : Bool) → (b ≡ true → ⊥) → b ≡ false
+never_true_is_false true h = absurd (h refl)
+never_true_is_false false h = refl
 
 module _ (rules : RuleLines) (value : Board → Value) (side : Colour) (codes : List ℕ) where
   -- the arm of a legal move
@@ -145,7 +145,8 @@ module _ (rules : RuleLines) (value : Board → Value) (side : Colour) (codes : 
       p.turn played.mover (node_there i p (Going played.mover) at played.turn)).0 in
       let own : same_colour played.mover side ≡ true =
       ap (λ c. same_colour c side) (sym turn ∙ mine) ∙ same_side side in
-      let free = (as_one (graph_by rules value) side codes played.mover _ a played.first.passes).0
+      let free = (candidate_is_free_and_coded (graph_by rules value) side codes played.mover _ a
+      played.first.passes).0
       own in
       ap (λ c. is_free rules c p a.mv) (sym mine) ∙ (sym (arm_free p a.mv)
       ∙ (ap (λ (x : Arm Step ℕ Value). x.free) (sym m.same) ∙ free))
@@ -179,7 +180,7 @@ module _ (rules : RuleLines) (value : Board → Value) (side : Colour) (codes : 
       record {
         to_move = turn.0;
         some = turn.1;
-        none_free = λ m h. no_true (is_free rules side p m) (λ t.
+        none_free = λ m h. never_true_is_false (is_free rules side p m) (λ t.
             let listed = subst (λ (xs : List (Arm Step ℕ Value)).
             Contains xs (arm_at rules value p m)) (sym (arms_there rules value i p at))
             (in_mapped (arm_at rules value p) (legal_moves_of p) m h) in

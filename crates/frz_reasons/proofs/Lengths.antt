@@ -24,7 +24,7 @@ use Rattle.frz_reasons.specs.FailingWays.{IsPlayedAt, FailsFrom, wrong, mated, r
 use Rattle.frz_reasons.specs.FailingGames.{IsRight, IsSpoiled}
 use Rattle.frz_reasons.specs.FailuresTell as tell
 use Rattle.frz_reasons.specs.FailuresTell.{FailsAt, code_behind}
-use Rattle.frz_reasons.proofs.Codes.{failure_least, hold_no_failure, not_other}
+use Rattle.frz_reasons.proofs.Codes.{failure_least, hold_no_failure, sides_differ}
 use Rattle.frz_reasons.proofs.MovePlayed.{PlaysOn, plays_on}
 
 -- an exit whose code is a failure is bad for the side, and its code is 3
@@ -51,11 +51,12 @@ module _ (arena : Arena Step ℕ Value) (side : Colour) (codes : List ℕ) where
       let less = on.less in
       (r.0, omega arith)
 
-  pub goes_less : (number q : ℕ) (a : Arm Step ℕ Value) → PlaysOn arena side codes number a
+  pub next_failure_is_shorter : (number q : ℕ) (a : Arm Step ℕ Value)
+      → PlaysOn arena side codes number a
       → a.next ≡ Inside q
       → (slice_index codes q + 2 ≡ slice_index codes number)
       × (is_failure (slice_index codes q) ≡ true)
-  goes_less number q a on into =
+  next_failure_is_shorter number q a on into =
       let code : code_behind arena side codes a ≡ slice_index codes q =
       ap (next_code arena side (λ k. slice_index codes k)) into in
       (ap (λ k. k + 2) (sym code) ∙ on.less, subst (λ k. is_failure k ≡ true) code on.failing)
@@ -76,7 +77,7 @@ module _ (arena : Arena Step ℕ Value) (side : Colour) (codes : List ℕ) where
     ends_renounced number n none (tell.renounced m three nothing) = three
     ends_renounced number n none (tell.moves m a i t less each) = absurd (none a i t)
     ends_renounced number n none (tell.waits m a i f less each) =
-        absurd (not_other side (let e = sym n ∙ m in cc))
+        absurd (sides_differ side (let e = sym n ∙ m in cc))
 
     on_by : (number n : ℕ) (a : Arm Step ℕ Value) → slice_index codes number ≡ 3 + 2 * n
         → IsPlayedAt arena side codes number a → PlaysOn arena side codes number a
@@ -104,12 +105,12 @@ module _ (arena : Arena Step ℕ Value) (side : Colour) (codes : List ℕ) where
         (omega (arith, code, five), λ right. omega (arith, code, five))
     failure_bounds_plies i zero xs e code (goes_on a q p into rest) =
         absurd (let on = on_by i zero a code p in
-        let less = goes_less i q a on into in
+        let less = next_failure_is_shorter i q a on into in
         let l = failure_least (slice_index codes q) less.1 in
         let k = less.0 in omega (arith, code, l, k))
     failure_bounds_plies i (suc n) xs e code (goes_on {arms = others} a q p into rest) =
         let on = on_by i (suc n) a code p in
-        let less = (goes_less i q a on into).0 in
+        let less = (next_failure_is_shorter i q a on into).0 in
         let go = failure_bounds_plies q n others e (omega (arith, code, less)) rest in
         let short = go.0 in
         (omega (arith, short), λ right. ap suc (go.1 right))
@@ -126,7 +127,8 @@ module _ (arena : Arena Step ℕ Value) (side : Colour) (codes : List ℕ) where
         bad v (leaves_bad i a v (plays_on arena side codes i (tells i failing p.agrees) a p) out).0
     failing_way_is_spoiled i xs e bad failing (goes_on {arms = others} a q p into rest) =
         failing_way_is_spoiled q others e bad
-        (goes_less i q a (plays_on arena side codes i (tells i failing p.agrees) a p) into).1 rest
+        (next_failure_is_shorter i q a (plays_on arena side codes i (tells i failing p.agrees) a p)
+        into).1 rest
 
   -- where each entry is right, no way ends at a wrong one
   pub right_entries_end_right : ((n : ℕ) → Agrees arena side codes n)

@@ -34,17 +34,17 @@ module _ (arena : Arena Step ℕ Value) (side : Colour) (codes : List ℕ) where
   abbrev candidate : Colour → ℕ → Arm Step ℕ Value → Bool
   candidate mover code a = is_candidate arena side (λ k. slice_index codes k) mover code a
 
-  pub is_one : (mover : Colour) (code : ℕ) (a : Arm Step ℕ Value)
+  pub free_and_coded_is_candidate : (mover : Colour) (code : ℕ) (a : Arm Step ℕ Value)
       → (same_colour mover side ≡ true → a.free ≡ true) → code_behind arena side codes a ≡ code
       → candidate mover code a ≡ true
-  is_one mover code a f e =
+  free_and_coded_is_candidate mover code a f e =
       candidate_by (same_colour mover side) a.free (code_behind arena side codes a == code) f
       (eq-eqb (code_behind arena side codes a) code e)
 
-  pub as_one : (mover : Colour) (code : ℕ) (a : Arm Step ℕ Value)
+  pub candidate_is_free_and_coded : (mover : Colour) (code : ℕ) (a : Arm Step ℕ Value)
       → candidate mover code a ≡ true
       → (same_colour mover side ≡ true → a.free ≡ true) × (code_behind arena side codes a ≡ code)
-  as_one mover code a h =
+  candidate_is_free_and_coded mover code a h =
       let r = by_candidate (same_colour mover side) a.free
       (code_behind arena side codes a == code) h in
       (r.0, eqb-true (code_behind arena side codes a) code r.1)
@@ -59,12 +59,13 @@ module _ (arena : Arena Step ℕ Value) (side : Colour) (codes : List ℕ) where
       → arena.node number ≡ Going side → a.free ≡ true
   played_free number a p n =
       let mine : p.mover ≡ side = same_mover p.mover side (sym p.turn ∙ n) in
-      (as_one p.mover (slice_index codes number - 2) a p.first.passes).0
+      (candidate_is_free_and_coded p.mover (slice_index codes number - 2) a p.first.passes).0
       (ap (λ c. same_colour c side) mine ∙ same_side side)
 
   pub played_code : (number : ℕ) (a : Arm Step ℕ Value) → IsPlayedAt arena side codes number a
       → code_behind arena side codes a ≡ slice_index codes number - 2
-  played_code number a p = (as_one p.mover (slice_index codes number - 2) a p.first.passes).1
+  played_code number a p =
+      (candidate_is_free_and_coded p.mover (slice_index codes number - 2) a p.first.passes).1
 
   -- at a number one arm is played at most
   pub one_played : (number : ℕ) (a b : Arm Step ℕ Value) → IsPlayedAt arena side codes number a
@@ -121,7 +122,7 @@ module _ (arena : Arena Step ℕ Value) (side : Colour) (codes : List ℕ) where
   played_by number fails agrees mover n b i f less =
       let code : code_behind arena side codes b ≡ slice_index codes number - 2 = omega arith in
       let r = first_there (candidate mover (slice_index codes number - 2)) (arena.arms number) b i
-      (is_one mover (slice_index codes number - 2) b f code) in
+      (free_and_coded_is_candidate mover (slice_index codes number - 2) b f code) in
       let p : IsPlayedAt arena side codes number r.1 = record {
         agrees = agrees;
         mover = mover;
@@ -131,8 +132,8 @@ module _ (arena : Arena Step ℕ Value) (side : Colour) (codes : List ℕ) where
       } in
       is_played r.1 p (plays_on number fails r.1 p)
 
-  no_own : (free : Bool) → same_colour (other_of side) side ≡ true → free ≡ true
-  no_own free e = absurd (let f = other_side side in cc)
+  opponent_is_not_side : (free : Bool) → same_colour (other_of side) side ≡ true → free ≡ true
+  opponent_is_not_side free e = absurd (let f = other_side side in cc)
 
   comes_by : (number : ℕ) → Agrees arena side codes number → FailsAt arena side codes number
       → ComesOf number
@@ -142,7 +143,7 @@ module _ (arena : Arena Step ℕ Value) (side : Colour) (codes : List ℕ) where
       played_by number (moves n b i t less each) agrees side n b i (λ _. t) less
   comes_by number agrees (waits n b i f less each) =
       played_by number (waits n b i f less each) agrees (other_of side) n b i
-      (no_own b.free) less
+      (opponent_is_not_side b.free) less
 
   pub comes_of : ((n : ℕ) → is_failure (slice_index codes n) ≡ true → Agrees arena side codes n
       → FailsAt arena side codes n) → (number : ℕ) → is_failure (slice_index codes number) ≡ true

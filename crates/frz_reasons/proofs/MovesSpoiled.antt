@@ -17,7 +17,7 @@ use Rattle.frz_arena.proofs.Lemmas.{first_in, at_broken}
 use Rattle.frz_reasons.specs.LocalEntries.{Agrees}
 use Rattle.frz_reasons.specs.FailuresTell.{FailsAt, code_behind, mated, renounced, moves, waits}
 use Rattle.frz_reasons.proofs.Best.{IsOrder, IsBest, best_of}
-use Rattle.frz_reasons.proofs.Codes.{win_no_failure, hold_no_failure, win_itself_no_failure, both_of, as_both, not_true, mover_is_either_side, same_side, other_side}
+use Rattle.frz_reasons.proofs.Codes.{win_no_failure, hold_no_failure, win_itself_no_failure, both_true_of_and, and_true_of_both, not_true_is_false, mover_is_either_side, same_side, other_side}
 
 module _ (arena : Arena Step ℕ Value) (side : Colour) (codes : List ℕ) (number : ℕ) where
   -- the code of an arm, and the local code
@@ -78,9 +78,9 @@ module _ (arena : Arena Step ℕ Value) (side : Colour) (codes : List ℕ) (numb
   false_of true h = absurd (h refl)
   false_of false h = refl
 
-  true_of : (x : Bool) → (not x ≡ true → ⊥) → x ≡ true
-  true_of true h = refl
-  true_of false h = absurd (h refl)
+  never_false_is_true : (x : Bool) → (not x ≡ true → ⊥) → x ≡ true
+  never_false_is_true true h = refl
+  never_false_is_true false h = absurd (h refl)
 
   module _ (laws : Laws) (failing : is_failure (slice_index codes number) ≡ true)
       (agrees : Agrees arena side codes number) where
@@ -108,32 +108,35 @@ module _ (arena : Arena Step ℕ Value) (side : Colour) (codes : List ℕ) (numb
         elim (best_of (λ (a : Arm Step ℕ Value). a.free && is_win (behind a))
         (λ a b. behind a ≤ behind b) least_first_is_order (arena.arms number)) [
           | inl r ↦ absurd (
-              let t = both_of r.0.free (is_win (behind r.0)) r.1.passes in
+              let t = both_true_of_and r.0.free (is_win (behind r.0)) r.1.passes in
               win_no_failure given (behind r.0) t.1
               (laws.own_win n r.0 r.1.there t.0 t.1
-              (λ b i u w. r.1.best b i (as_both b.free (is_win (behind b)) u w))) given_code_fails)
+              (λ b i u w. r.1.best b i (and_true_of_both b.free (is_win (behind b)) u w)))
+              given_code_fails)
           | inr no_win ↦ elim (best_of
               (λ (a : Arm Step ℕ Value). a.free && not (is_failure (behind a)))
               (λ a b. ⊤) indifference_is_order (arena.arms number)) [
                 | inl r ↦ absurd (
-                    let t = both_of r.0.free (not (is_failure (behind r.0))) r.1.passes in
+                    let t = both_true_of_and r.0.free (not (is_failure (behind r.0))) r.1.passes in
                     hold_no_failure given
-                    (laws.own_hold n r.0 r.1.there t.0 (not_true (is_failure (behind r.0)) t.1)
+                    (laws.own_hold n r.0 r.1.there t.0
+                    (not_true_is_false (is_failure (behind r.0)) t.1)
                     (λ b i u. false_of (is_win (behind b))
-                    (λ w. no_win b i (as_both b.free (is_win (behind b)) u w)))) given_code_fails)
+                    (λ w. no_win b i (and_true_of_both b.free (is_win (behind b)) u w))))
+                    given_code_fails)
                 | inr no_hold ↦ own_by n
-                    (λ b i u. true_of (is_failure (behind b))
-                    (λ h. no_hold b i (as_both b.free (not (is_failure (behind b))) u h)))
+                    (λ b i u. never_false_is_true (is_failure (behind b))
+                    (λ h. no_hold b i (and_true_of_both b.free (not (is_failure (behind b))) u h)))
                     (best_of (λ (a : Arm Step ℕ Value). a.free) (λ a b. behind b ≤ behind a)
                     greatest_first_is_order
                     (arena.arms number))
               ]
         ]
 
-    some_in : (arms : List (Arm Step ℕ Value)) → arms ≢ [] →
+    some_arm_there : (arms : List (Arm Step ℕ Value)) → arms ≢ [] →
         (a : Arm Step ℕ Value) × Contains arms a
-    some_in [] h = absurd (h refl)
-    some_in (a ∷ arms) h = (a, first_in a arms)
+    some_arm_there [] h = absurd (h refl)
+    some_arm_there (a ∷ arms) h = (a, first_in a arms)
 
     fails_at_other_move : IsLawful arena → arena.node number ≡ Going (other_of side) →
         FailsAt arena side codes number
@@ -146,7 +149,8 @@ module _ (arena : Arena Step ℕ Value) (side : Colour) (codes : List ℕ) (numb
               (λ (a : Arm Step ℕ Value). not (is_win (behind a)))
               (λ a b. ⊤) indifference_is_order (arena.arms number)) [
                 | inl r ↦ absurd (hold_no_failure given
-                    (laws.other_hold n r.0 r.1.there (not_true (is_win (behind r.0)) r.1.passes)
+                    (laws.other_hold n r.0 r.1.there
+                    (not_true_is_false (is_win (behind r.0)) r.1.passes)
                     (λ b i. false_of (is_failure (behind b)) (λ w. no_failure b i w)))
                     given_code_fails)
                 | inr no_hold ↦ elim (best_of
@@ -156,12 +160,13 @@ module _ (arena : Arena Step ℕ Value) (side : Colour) (codes : List ℕ) (numb
                       | inl r ↦ absurd (
                           let each : (b : Arm Step ℕ Value) → IsArm arena number b →
                           is_win (behind b) ≡ true =
-                          λ b i. true_of (is_win (behind b)) (λ h. no_hold b i h) in
+                          λ b i. never_false_is_true (is_win (behind b)) (λ h. no_hold b i h) in
                           win_no_failure given (behind r.0) (each r.0 r.1.there)
                           (laws.other_win n r.0 r.1.there (λ b i. (each b i, r.1.best b i refl)))
                           given_code_fails)
                       | inr none ↦ absurd (
-                          let some = some_in (arena.arms number) (law.goes_on number (other_of side) n) in
+                          let some = some_arm_there (arena.arms number)
+                          (law.goes_on number (other_of side) n) in
                           none some.0 some.1 refl)
                     ]
               ]

@@ -17,7 +17,7 @@ use Rattle.frz_arena.specs.Plies.{LeadsTo, FailsWithin, IsBadExit}
 use Rattle.frz_arena.proofs.Lemmas.{AreCodes, win_and_failure, win_of}
 use Rattle.frz_reasons.specs.FailingWays.{IsPlayedAt}
 use Rattle.frz_reasons.specs.FailuresTell.{FailsAt, FailsBehind, code_behind, mated, renounced, moves, waits}
-use Rattle.frz_reasons.proofs.Codes.{hold_no_failure, not_other}
+use Rattle.frz_reasons.proofs.Codes.{hold_no_failure, sides_differ}
 use Rattle.frz_reasons.proofs.MovePlayed.{played_code}
 
 bad_code : (n lag : ℕ) (c : Class) → c ≡ Bad → IsFailureWithin n (exit_code c lag)
@@ -53,10 +53,11 @@ module _ (arena : Arena Step ℕ Value) (side : Colour) (codes : List ℕ)
       let k = (code_at n b.next h).1 in
       fails_at n a.next (f, omega (arith, le, k))
 
-  two_less : (number : ℕ) (a b : Arm Step ℕ Value) → IsPlayedAt arena side codes number a
+  codes_behind_are_equal : (number : ℕ) (a b : Arm Step ℕ Value)
+      → IsPlayedAt arena side codes number a
       → code_behind arena side codes b + 2 ≡ slice_index codes number
       → code_behind arena side codes b ≡ code_behind arena side codes a
-  two_less number a b p less =
+  codes_behind_are_equal number a b p less =
       let c = played_code arena side codes number a p in omega (arith, c, less)
 
   pub opponent_plays_quickest : (number : ℕ) → FailsAt arena side codes number
@@ -67,11 +68,11 @@ module _ (arena : Arena Step ℕ Value) (side : Colour) (codes : List ℕ)
   opponent_plays_quickest number (mated m three) a p going b i n h =
       absurd (let e = sym m ∙ going in cc)
   opponent_plays_quickest number (renounced m three none) a p going b i n h =
-      absurd (not_other side (let e = sym m ∙ going in cc))
+      absurd (sides_differ side (let e = sym m ∙ going in cc))
   opponent_plays_quickest number (moves m d j t less each) a p going b i n h =
-      absurd (not_other side (let e = sym m ∙ going in cc))
+      absurd (sides_differ side (let e = sym m ∙ going in cc))
   opponent_plays_quickest number (waits m d j f less each) a p going b i n h =
-      let same = two_less number a d p less in
+      let same = codes_behind_are_equal number a d p less in
       let first = each b i (code_at n b.next h).0 in
       no_later n a b (subst (λ k. is_failure k ≡ true) same f) (omega (arith, same, first)) h
 
@@ -84,9 +85,9 @@ module _ (arena : Arena Step ℕ Value) (side : Colour) (codes : List ℕ)
       (let e = sym m ∙ going in cc)
   side_holds_out_longest number (renounced m three none) a p going b i t n h = absurd (none b i t)
   side_holds_out_longest number (moves m d j u less each) a p going b i t n h =
-      let same = two_less number a d p less in
+      let same = codes_behind_are_equal number a d p less in
       let last = each b i t in
       let le = last.1 in
       no_later n b a last.0 (omega (arith, same, le)) h
   side_holds_out_longest number (waits m d j f less each) a p going b i t n h =
-      absurd (not_other side (let e = sym going ∙ m in cc))
+      absurd (sides_differ side (let e = sym going ∙ m in cc))

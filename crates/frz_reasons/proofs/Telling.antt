@@ -31,10 +31,10 @@ abbrev line_of : Arm Step ℕ Value → List ℕ
 line_of a = text_of a.mv ++ text "\n"
 
 -- one move more was written
-one_more : (played : List (Arm Step ℕ Value)) (a : Arm Step ℕ Value) (old mid new : SinkTold)
+one_move_more : (played : List (Arm Step ℕ Value)) (a : Arm Step ℕ Value) (old mid new : SinkTold)
     → TookText (moves_text played) old mid → TookText (line_of a) mid new
     → TookText (moves_text (played ++ a ∷ [])) old new
-one_more played a old mid new before line =
+one_move_more played a old mid new before line =
     subst (λ l. TookText l old new) (sym (moves_both played (a ∷ [])))
     (took_next before (subst (λ l. TookText l mid new) (sym (append-nil (line_of a))) line))
 
@@ -65,7 +65,7 @@ module _ (arena : Arena Step ℕ Value) (side : Colour) (codes : List ℕ) (star
       → IsSoFar number old mid → TookText (line_of a) mid new → IsSoFar q old new
   goes_so_far number q a old mid new p into so line = record {
     played = so.played ++ a ∷ [];
-    took = one_more so.played a old mid new so.took line;
+    took = one_move_more so.played a old mid new so.took line;
     from = λ rest reason way.
         subst (λ l. FailsFrom arena side codes start l reason)
         (sym (append_assoc so.played (a ∷ []) rest))
@@ -94,7 +94,7 @@ module _ (arena : Arena Step ℕ Value) (side : Colour) (codes : List ℕ) (star
     arms = so.played ++ a ∷ [];
     reason = Left number a.mv v;
     way = so.from (a ∷ []) (Left number a.mv v) (leaves a v p out);
-    wrote = record { ok = one_more so.played a old mid new so.took line; failed = tt };
+    wrote = record { ok = one_move_more so.played a old mid new so.took line; failed = tt };
     answers = refl;
   }
 

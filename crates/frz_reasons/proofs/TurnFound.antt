@@ -65,9 +65,9 @@ module _ (arena : Arena Step ℕ Value) (size : ℕ) (finite : IsFinite arena si
       ap (λ c. is_one (same_colour mover side) a.free asked c)
       (code_there (arm_code side codes) arms k a here ∙ same_code a)
 
-  one_at : (k : ℕ) (a : Arm Step ℕ Value) → slice_get arms k ≡ Some a → test a ≡ true
+  tested_is_one : (k : ℕ) (a : Arm Step ℕ Value) → slice_get arms k ≡ Some a → test a ≡ true
       → IsOneAt (same_colour mover side) asked arms read k
-  one_at k a here t = record { arm = a; here = here; passes = test_there k a here ∙ t }
+  tested_is_one k a here t = record { arm = a; here = here; passes = test_there k a here ∙ t }
 
   -- the first such one is played
   pub played_first : (k : ℕ) → IsOneAt (same_colour mover side) asked arms read k
@@ -89,7 +89,7 @@ module _ (arena : Arena Step ℕ Value) (size : ℕ) (finite : IsFinite arena si
               is_one (same_colour mover side) x.free asked (slice_index read k)) (sym same)
               ∙ one.passes);
           before = λ j b l there. elim (cases_Bool (test b)) [
-            | inl t ↦ absurd (before j l (one_at j b there t))
+            | inl t ↦ absurd (before j l (tested_is_one j b there t))
             | inr f ↦ f
           ];
         };
@@ -111,12 +111,12 @@ module _ (arena : Arena Step ℕ Value) (size : ℕ) (finite : IsFinite arena si
   renounced_there (renounced n three nothing) none = ways.renounced agrees n nothing
   renounced_there (moves n a i t less each) none =
       let p = arm_has_place a i in
-      absurd (none p.0 (one_at p.0 a p.1 (as_candidate arena side codes mover asked a
+      absurd (none p.0 (tested_is_one p.0 a p.1 (as_candidate arena side codes mover asked a
       (λ _. t) (asked_by a less))))
   renounced_there (waits n a i f less each) none =
       let p = arm_has_place a i in
       let theirs : mover ≡ other_of side = (let e = sym turn ∙ n in cc) in
-      absurd (none p.0 (one_at p.0 a p.1 (as_candidate arena side codes mover asked a
+      absurd (none p.0 (tested_is_one p.0 a p.1 (as_candidate arena side codes mover asked a
       (λ own. absurd (let c = ap (λ m. same_colour m side) theirs ∙ other_side side in cc))
       (asked_by a less))))
 

@@ -44,9 +44,9 @@ pub at_front : (cell : ℕ) (cells : List ℕ) (i : ℕ) → at cell (take i cel
 at_front cell cells i = sum_by-take-le (λ (x : ℕ). cond (x == cell) 1 0) cells i
 
 -- one cell more
-pub at_more : (cell : ℕ) (cells : List ℕ) (i : ℕ) → i < length cells
+pub one_cell_more : (cell : ℕ) (cells : List ℕ) (i : ℕ) → i < length cells
     → at cell (take (i + 1) cells) ≡ at cell (take i cells) + one_if (get_or cells i 0 == cell)
-at_more cell cells i within =
+one_cell_more cell cells i within =
     ap (at cell) (take_more cells i 0 within) ∙ sum_by_push (λ (x : ℕ). cond (x == cell) 1 0)
     (take i cells) (get_or cells i 0)
     ∙ ap (λ (n : ℕ). at cell (take i cells) + n) (one_if_is (get_or cells i 0 == cell))

@@ -44,8 +44,8 @@ module _ (rules : RuleLines) (value : Board → Value) (n : ℕ) where
   module _ (p : Board) (arms : List (Arm Step ℕ Value))
       (there : position_at rules.groups n ≡ Some p)
       (are : arms ≡ (graph_by rules value).arms n) where
-    more_is : exits n ++ classes_after p arms ≡ exits (n + 1)
-    more_is =
+    exits_of_one_more : exits n ++ classes_after p arms ≡ exits (n + 1)
+    exits_of_one_more =
         ap (λ (l : List (Arm Step ℕ Value)). exits n ++ classes_after p l) are
         ∙ ap (λ (l : List (List ℕ)). exits n ++ l) (sym (exits_there rules value n p there))
         ∙ sym (exits_more rules value n)
@@ -54,17 +54,19 @@ module _ (rules : RuleLines) (value : Board → Value) (n : ℕ) where
         → ((exits : List (List ℕ)) → Counts entries exits
         → Counts more (exits ++ classes_after p arms))
         → Counts entries (exits n) → Counts more (exits (n + 1))
-    counted_more entries more counts before = subst (Counts more) more_is (counts (exits n) before)
+    counted_more entries more counts before = subst (Counts more) exits_of_one_more
+        (counts (exits n) before)
 
     pub total_more : (before now : ℕ) → before ≡ length (exits n)
         → now ≡ before + length (classes_after p arms) → now ≡ length (exits (n + 1))
     total_more before now e h =
         h ∙ ap (λ (k : ℕ). k + length (classes_after p arms)) e
-        ∙ sym (length-append (exits n) (classes_after p arms)) ∙ ap length more_is
+        ∙ sym (length-append (exits n) (classes_after p arms)) ∙ ap length exits_of_one_more
 
-  pub few_more : (p : Board) (arms : List (Arm Step ℕ Value)) (before now : ℕ) → length arms ≤ 1024
+  pub few_with_one_more : (p : Board) (arms : List (Arm Step ℕ Value)) (before now : ℕ)
+      → length arms ≤ 1024
       → before ≤ 1024 * n → now ≡ before + length (classes_after p arms) → now ≤ 1024 * (n + 1)
-  few_more p arms before now few low h = let some = few_classes p arms in omega arith
+  few_with_one_more p arms before now few low h = let some = few_classes p arms in omega arith
 
   module _ (none : position_at rules.groups n ≡ None) where
     same_exits : exits n ≡ exits (n + 1)

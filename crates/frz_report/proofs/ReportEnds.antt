@@ -54,9 +54,9 @@ module _ (job : Job) (may : MayReport job) (rules : RuleLines) (value : Board �
 
   module _ (answers : Answers) where
     -- the report was written, or the sink failed within it
-    told_so : (end : End) → StoreFine old new → Said Success whole end out_old out_new
+    report_is_told : (end : End) → StoreFine old new → Said Success whole end out_old out_new
         → Ran job end start finish
-    told_so end fine says_it =
+    report_is_told end fine says_it =
         said job Success whole end start (world new input out_old now) out_new
         (quiet_both old new input out_old before now quiet later)
         (fine_store old new input out_old before now fine) may.own says_it answers
@@ -109,14 +109,14 @@ module _ (job : Job) (may : MayReport job) (rules : RuleLines) (value : Board �
     report_ended (Ok totals) fine h =
         let all : h.text ≡ whole = sym (append-nil h.text)
         ∙ ap (λ (l : List ℕ). h.text ++ l) (sym h.finishes.1) ∙ h.begins in
-        told_so (Done Success) fine
+        report_is_told (Done Success) fine
         (record {
           says = inl (refl, subst (λ (l : List ℕ). TookText l out_old out_new) all h.wrote);
         })
     report_ended (Err faults.Store) rose h =
         halted_so stops.Store h.text h.rest (may.store, rose) h.lines h.wrote h.begins h.finishes
     report_ended (Err faults.Output) fine h =
-        told_so SinkFault fine
+        report_is_told SinkFault fine
         (record {
           says = inr (
             refl,

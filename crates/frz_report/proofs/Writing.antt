@@ -21,8 +21,8 @@ use Rattle.frz_report.specs.Squeezes.{squeezes}
 use Rattle.frz_report.specs.Walks.{TookFront, WritesSome, lines_below}
 use Rattle.frz_report.proofs.Walking.{are_lines}
 
-last_said : (many exits : ℕ) → last_line many exits ≡ [] → ⊥
-last_said many exits e = cc
+last_line_not_empty : (many exits : ℕ) → last_line many exits ≡ [] → ⊥
+last_line_not_empty many exits e = cc
 
 module _ (rules : RuleLines) (value : Board → Value) (kept : Colour → List ℕ) where
   abbrev first : List ℕ
@@ -37,13 +37,13 @@ module _ (rules : RuleLines) (value : Board → Value) (kept : Colour → List �
   abbrev whole : List ℕ
   whole = report_text rules value kept
 
-  rest_said : classes ++ last ≡ [] → ⊥
-  rest_said = behind_said classes last
-      (last_said (length (squeezes rules.groups kept)) (length (exits_of rules value)))
+  rest_not_empty : classes ++ last ≡ [] → ⊥
+  rest_not_empty = behind_said classes last
+      (last_line_not_empty (length (squeezes rules.groups kept)) (length (exits_of rules value)))
 
   -- a report is never empty
   pub report_said : whole ≡ [] → ⊥
-  report_said = behind_said first (classes ++ last) rest_said
+  report_said = behind_said first (classes ++ last) rest_not_empty
 
   last_is_line : (many exits : ℕ) → (front : List ℕ) × (last_line many exits ≡ front ++ 10 ∷ [])
   last_is_line many exits = (
@@ -79,7 +79,7 @@ module _ (rules : RuleLines) (value : Board → Value) (kept : Colour → List �
     begins = sym (append_assoc front.text front.rest (classes ++ last))
         ∙ ap (λ (l : List ℕ). l ++ (classes ++ last)) front.begins;
     finishes = finishes (front.rest ++ (classes ++ last))
-        (behind_said front.rest (classes ++ last) rest_said);
+        (behind_said front.rest (classes ++ last) rest_not_empty);
   }
 
   -- something stopped the walk

@@ -48,11 +48,11 @@ few_at_start opponents.Codes arena side start code first l few =
 few_at_start opponents.Input arena side start code first l few =
     (let h = own_most side (arena.node start) in omega (arith, h, few))
 
-next_of : (cursor : Cursor) (code : ℕ) → IsNextCode cursor.code code
+next_code_counts_down : (cursor : Cursor) (code : ℕ) → IsNextCode cursor.code code
     → (cursor.code ≡ 1 → cursor.played < LINE_LIMIT)
     → ((is_win cursor.code ≡ true) × (is_win code ≡ true) × (code + 2 ≡ cursor.code))
     ⊎ ((cursor.code ≡ 1) × (code ≤ 1) × (cursor.played < LINE_LIMIT))
-next_of cursor code next early =
+next_code_counts_down cursor code next early =
     elim next [ inl h ↦ inl h | inr h ↦ inr (h.0, h.1, early h.0) ]
 
 -- at the next cursor the plies are few too
@@ -61,18 +61,20 @@ module _ (arena : Arena Step ℕ Value) (side : Colour) (cursor : Cursor) (old n
   abbrev pub there : Cursor
   there = record { number = number; code = code; played = cursor.played + 1 }
 
-  pub few_on : (o : Opponent) → LeavesLess o arena side cursor old new number code
+  pub few_left_next : (o : Opponent) → LeavesLess o arena side cursor old new number code
       → HasFew o arena side old cursor → HasFew o arena side new there
-  few_on opponents.Codes less few =
+  few_left_next opponents.Codes less few =
       let e : suc cursor.played ≡ cursor.played + 1 = omega arith in
       subst (λ k. IsFew LINE_LIMIT k code) e
-      (few_after LINE_LIMIT cursor.played cursor.code code few (next_of cursor code less.0 less.1))
-  few_on opponents.Input less few = omega (arith, less, few)
+      (few_after LINE_LIMIT cursor.played cursor.code code few
+      (next_code_counts_down cursor code less.0 less.1))
+  few_left_next opponents.Input less few = omega (arith, less, few)
 
-  pub left_on : (o : Opponent) → LeavesLess o arena side cursor old new number code
+  pub less_left_next : (o : Opponent) → LeavesLess o arena side cursor old new number code
       → way_left o arena side new there < way_left o arena side old cursor
-  left_on opponents.Codes less =
+  less_left_next opponents.Codes less =
       let e : suc cursor.played ≡ cursor.played + 1 = omega arith in
       subst (λ k. line_left LINE_LIMIT k code < line_left LINE_LIMIT cursor.played cursor.code) e
-      (left_after LINE_LIMIT cursor.played cursor.code code (next_of cursor code less.0 less.1))
-  left_on opponents.Input less = less
+      (left_after LINE_LIMIT cursor.played cursor.code code
+      (next_code_counts_down cursor code less.0 less.1))
+  less_left_next opponents.Input less = less

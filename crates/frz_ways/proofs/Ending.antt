@@ -17,18 +17,18 @@ use Rattle.frz_words.specs.Words.{words}
 use Rattle.frz_ways.specs.declared.session_end.TheConstants.{MOST_LENGTH}
 use Rattle.frz_ways.specs.Reading.{Input, Halt, line_length, first_line, behind_line, only_of, place_by, place_said, refuse_one, reply_or, reads}
 
-there_at : (arms : List (Arm Step ℕ Value)) (place : ℕ) → place < length arms
+place_has_arm : (arms : List (Arm Step ℕ Value)) (place : ℕ) → place < length arms
     → (a : Arm Step ℕ Value) × (slice_get arms place ≡ Some a)
-there_at [] place l = absurd (omega arith)
-there_at (a ∷ arms) zero l = (a, refl)
-there_at (a ∷ arms) (suc place) l = there_at arms place (omega arith)
+place_has_arm [] place l = absurd (omega arith)
+place_has_arm (a ∷ arms) zero l = (a, refl)
+place_has_arm (a ∷ arms) (suc place) l = place_has_arm arms place (omega arith)
 
 place_there : (arms : List (Arm Step ℕ Value)) (word : Option (List ℕ)) (place : ℕ)
     → place_by arms word ≡ Some place → (a : Arm Step ℕ Value) × (slice_get arms place ≡ Some a)
 place_there arms None place e = absurd (cc)
 place_there [] (Some word) place e = absurd (cc)
 place_there (a ∷ arms) (Some word) place e =
-    there_at (a ∷ arms) place
+    place_has_arm (a ∷ arms) place
     (position-Some (λ z. bytes_eq word (text_of z.mv)) (a ∷ arms) place a e).0
 
 -- what an answer's reply is
@@ -37,25 +37,25 @@ IsReply arms more answer =
     (refused place : ℕ) (left : Input) → answer ≡ Reply refused place left →
     ((a : Arm Step ℕ Value) × (slice_get arms place ≡ Some a)) × (left.more < more)
 
-of_next : (arms : List (Arm Step ℕ Value)) (more : ℕ) (next : Answer Input Halt)
+refused_is_reply : (arms : List (Arm Step ℕ Value)) (more : ℕ) (next : Answer Input Halt)
     → IsReply arms more next → IsReply arms (suc more) (refuse_one next)
-of_next arms more (Reply n p l) h = λ refused place left e.
+refused_is_reply arms more (Reply n p l) h = λ refused place left e.
     let at_it : p ≡ place = cc in
     let same : l ≡ left = cc in
     let r = h n place left (ap (λ k. Reply n k l) at_it ∙ ap (Reply n place) same) in
     (r.0, (let k = r.1 in omega (arith, k)))
-of_next arms more (Stop halt l) h = λ refused place left e. absurd (cc)
+refused_is_reply arms more (Stop halt l) h = λ refused place left e. absurd (cc)
 
-of_line : (arms : List (Arm Step ℕ Value)) (more : ℕ) (said : Option ℕ)
+line_is_reply : (arms : List (Arm Step ℕ Value)) (more : ℕ) (said : Option ℕ)
     → ((place : ℕ) → said ≡ Some place → (a : Arm Step ℕ Value) × (slice_get arms place ≡ Some a))
     → (rest : List ℕ) (next : Answer Input Halt) → IsReply arms more next
     → IsReply arms (suc more) (reply_or said (record { left = rest; more = more }) next)
-of_line arms more (Some p) there rest next h = λ refused place left e.
+line_is_reply arms more (Some p) there rest next h = λ refused place left e.
     let at_it : p ≡ place = cc in
     let same : record { left = rest; more = more } ≡ left = cc in
     let few : left.more ≡ more = ap (λ (z : Input). z.more) (sym same) in
     (there place (ap Some at_it), omega (arith, few))
-of_line arms more None there rest next h = of_next arms more next h
+line_is_reply arms more None there rest next h = refused_is_reply arms more next h
 
 read_is_reply : (arms : List (Arm Step ℕ Value)) (more : ℕ) (left : List ℕ)
     → IsReply arms more (reads arms more left)
@@ -64,7 +64,7 @@ read_is_reply arms (suc more) [] = λ refused place rest e. absurd (cc)
 read_is_reply arms (suc more) (b ∷ bs) =
     elim (cases_Bool (nat_lt MOST_LENGTH (line_length (b ∷ bs)))) [
       | inl t ↦ rw t (λ refused place rest e. absurd (cc))
-      | inr f ↦ rw f (of_line arms more (place_said arms (first_line (b ∷ bs)))
+      | inr f ↦ rw f (line_is_reply arms more (place_said arms (first_line (b ∷ bs)))
           (λ place e. place_there arms (only_of (words (first_line (b ∷ bs)))) place e)
           (behind_line (b ∷ bs)) (reads arms more (behind_line (b ∷ bs)))
           (read_is_reply arms more (behind_line (b ∷ bs))))

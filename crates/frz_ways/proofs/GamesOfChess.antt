@@ -29,7 +29,7 @@ use Rattle.frz_game.specs.Numbers.{is_member, position_at, numbers_by}
 use Rattle.frz_game.proofs.Lemmas.{arms_there}
 use Rattle.frz_ways.specs.ChessGames.{IsPlyFrom, IsGame, after_plies}
 use Rattle.frz_ways.specs.Lines.{LinePly}
-use Rattle.frz_ways.proofs.MoveChosen.{at_in}
+use Rattle.frz_ways.proofs.MoveChosen.{placed_is_contained}
 
 -- who is to move
 mover_of : (b : Bool) (ms : List Step) (check : Bool) (turn mover : Colour)
@@ -239,7 +239,7 @@ module _ {S R : Type 0} (rules : RuleLines) (value : Board → Value) (side : Co
       → ((x : LinePly) → Contains plies x → IsPlyOf player x)
       → (i : ℕ) (x : LinePly) → slice_get plies i ≡ Some x → IsMade x
   each_made start s t plies end way keeps i x e =
-      let in_it = at_in plies i x e in
+      let in_it = placed_is_contained plies i x e in
       let r = reader_moves (game_of rules value) (numbers_by rules.groups) side codes opponent s t
       (0, start) plies end way x in_it in
       record {

@@ -26,8 +26,8 @@ line_length_adds_up bytes rest one =
     ∙ ap (λ (b : Bool). cond b (length bytes + line_length rest) (line_length bytes))
     (eq-eqb (line_length bytes) (length bytes) one)
 
-pub none_yet : IsOneLine []
-none_yet = refl
+pub empty_is_one_line : IsOneLine []
+empty_is_one_line = refl
 
 not_feed : (byte : ℕ) → (byte ≡ 10 → ⊥) → is_line_feed byte ≡ false
 not_feed byte h = grind (arith, nat_tests)
@@ -36,9 +36,9 @@ one_byte : (byte : ℕ) → is_line_feed byte ≡ false → line_length (byte �
 one_byte byte h = rw h refl
 
 -- a byte more that is no line feed
-pub one_more : (bytes : List ℕ) (byte : ℕ) → IsOneLine bytes → (byte ≡ 10 → ⊥)
+pub one_byte_more : (bytes : List ℕ) (byte : ℕ) → IsOneLine bytes → (byte ≡ 10 → ⊥)
     → IsOneLine (bytes ++ byte ∷ [])
-one_more bytes byte one h =
+one_byte_more bytes byte one h =
     line_length_adds_up bytes (byte ∷ []) one
     ∙ (ap (λ n. length bytes + n) (one_byte byte (not_feed byte h))
     ∙ sym (length-append bytes (byte ∷ [])))

@@ -1,6 +1,6 @@
 -- The lemmas that the crates above cite.
 pub use Rattle.frz_ways.proofs.Alternating.{turn_after}
-pub use Rattle.frz_ways.proofs.MoveChosen.{at_in}
+pub use Rattle.frz_ways.proofs.MoveChosen.{placed_is_contained}
 pub use Rattle.frz_ways.proofs.WayFinished.{answer_input, answer_kind, ended_wrote, same_input}
 pub use Rattle.frz_ways.proofs.CodesGathered.{gathered_codes_may_be_read}
 pub use Rattle.frz_ways.proofs.Goings.{way_front}

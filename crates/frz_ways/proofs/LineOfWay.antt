@@ -165,15 +165,15 @@ plies_are : (side : Colour) (plies : List LinePly)
 plies_are side [] = refl
 plies_are side (x ∷ plies) = ap (λ (l : List ℕ). move_line x.arm.mv ++ l) (plies_are side plies)
 
-last_is : (side : Colour) (end : EndOfLine)
+last_lines_agree : (side : Colour) (end : EndOfLine)
     → session_texts.end_text (as_way end) ≡ last_line (line_ends.told side end)
-last_is side (Wrong p kept given) = refl
-last_is side NoBound = refl
-last_is side (Mated mover) = refl
-last_is side (Stalemated mover) = refl
-last_is side (Exit v) = refl
-last_is side Cut = refl
-last_is side (Stopped reason) = elim reason [ ]
+last_lines_agree side (Wrong p kept given) = refl
+last_lines_agree side NoBound = refl
+last_lines_agree side (Mated mover) = refl
+last_lines_agree side (Stalemated mover) = refl
+last_lines_agree side (Exit v) = refl
+last_lines_agree side Cut = refl
+last_lines_agree side (Stopped reason) = elim reason [ ]
 
 start_is : (side : Colour) (code : ℕ) (plies : List LinePly) (end : EndOfLine)
     → session_texts.start_line side code plies (as_way end)
@@ -197,7 +197,7 @@ line_text_is side code plies end =
     ∙ (ap (λ (l : List ℕ). start_line side code plies (line_ends.told side end)
     ++ (l ++ session_texts.end_text (as_way end))) (plies_are side plies)
     ∙ ap (λ (l : List ℕ). start_line side code plies (line_ends.told side end)
-    ++ (plies_text plies ++ l)) (last_is side end))
+    ++ (plies_text plies ++ l)) (last_lines_agree side end))
 
 answer_is : (side : Colour) (end : EndOfLine)
     → way_ends.told side (as_way end) ≡ of_line (line_ends.told side end)

@@ -36,10 +36,10 @@ at_end arms (suc more) [] l e = refl
 at_end arms (suc more) (b ∷ rest) l e = absurd (cc)
 
 -- the end was seen before, or now
-is_over : (old new : Reader) → 0 < old.more → new.more ≡ old.more → new.ended ≡ true
+input_is_over : (old new : Reader) → 0 < old.more → new.more ≡ old.more → new.ended ≡ true
     → (line : List ℕ) (source left : SourceTold) → TookBytes [] source left → HasEnded left
     → HearsLine old new (Ok (Some Ended)) line source left
-is_over old new some same ended line source left took has = record {
+input_is_over old new some same ended line source left took has = record {
   bytes = [];
   took = took;
   ended = λ e. has;
@@ -50,22 +50,23 @@ is_over old new some same ended line source left took has = record {
       (sym same) (at_end arms old.more rest some (may ended));
 }
 
-pub seen_before : (old : Reader) (line : List ℕ) (source : SourceTold) → 0 < old.more
+pub end_seen_before : (old : Reader) (line : List ℕ) (source : SourceTold) → 0 < old.more
     → old.ended ≡ true → (old.ended ≡ true → HasEnded source)
     → HearsLine old old (Ok (Some Ended)) line source source
-seen_before old line source some ended has =
-    is_over old old some refl ended line source source (took_none source source refl) (has ended)
+end_seen_before old line source some ended has =
+    input_is_over old old some refl ended line source source (took_none source source refl)
+    (has ended)
 
 -- a number above 0 is one more than another
-one_less : (n : ℕ) → 0 < n → (m : ℕ) × (n ≡ suc m)
-one_less zero l = absurd (omega arith)
-one_less (suc n) l = (n, refl)
+above_zero_is_next : (n : ℕ) → 0 < n → (m : ℕ) × (n ≡ suc m)
+above_zero_is_next zero l = absurd (omega arith)
+above_zero_is_next (suc n) l = (n, refl)
 
 too_long : (old : Reader) → 0 < old.more → old.ended ≡ false
     → (line : List ℕ) (source left : SourceTold) → TookTooLong source left
     → HearsLine old old (Ok (Some (Limit LineLength))) line source left
 too_long old some going line source left took =
-    let m = one_less old.more some in record {
+    let m = above_zero_is_next old.more some in record {
       bytes = took.0;
       took = took.3;
       ended = λ e. absurd (cc);
@@ -82,7 +83,7 @@ failed_line : (old : Reader) → 0 < old.more → old.ended ≡ false
     → length line ≤ MOST_LENGTH → TookBytes line source left
     → HearsLine old old (Err fault) line source left
 failed_line old some going fault line source left one few took =
-    let m = one_less old.more some in record {
+    let m = above_zero_is_next old.more some in record {
       bytes = line;
       took = took;
       ended = λ e. absurd (cc);
@@ -100,14 +101,15 @@ input_failed old (Ok x) line source left some going failed few took = cc
 input_failed old (Err fault) line source left some going failed few took =
     failed_line old some going fault line source left took.0 few took.1
 
-has_some : (line tail : List ℕ) (b : ℕ) → line ++ b ∷ tail ≢ []
-has_some [] tail b = λ e. absurd (cc)
-has_some (a ∷ line) tail b = λ e. absurd (cc)
+longer_not_empty : (line tail : List ℕ) (b : ℕ) → line ++ b ∷ tail ≢ []
+longer_not_empty [] tail b = λ e. absurd (cc)
+longer_not_empty (a ∷ line) tail b = λ e. absurd (cc)
 
-came_whole : (old new : Reader) → old.more ≡ new.more + 1 → old.ended ≡ false → new.ended ≡ false
+whole_line_came : (old new : Reader) → old.more ≡ new.more + 1 → old.ended ≡ false
+    → new.ended ≡ false
     → (line : List ℕ) (source left : SourceTold) → IsOneLine line → length line ≤ MOST_LENGTH
     → TookBytes (line ++ 10 ∷ []) source left → HearsLine old new (Ok None) line source left
-came_whole old new more before going line source left one few took =
+whole_line_came old new more before going line source left one few took =
     let next : old.more ≡ suc new.more = omega (arith, more) in record {
       bytes = line ++ 10 ∷ [];
       took = took;
@@ -118,14 +120,14 @@ came_whole old new more before going line source left one few took =
           (λ n. reads arms n ((line ++ 10 ∷ []) ++ rest) ≡ reply_or (place_said arms line)
           (record { left = rest; more = new.more }) (reads arms new.more rest)) (sym next)
           (ap (λ (l : List ℕ). reads arms (suc new.more) l) (append_assoc line (10 ∷ []) rest)
-          ∙ reads_line arms new.more line (10 ∷ rest) one refl few (has_some line rest 10));
+          ∙ reads_line arms new.more line (10 ∷ rest) one refl few (longer_not_empty line rest 10));
     }
 
-came_last : (old new : Reader) → old.more ≡ new.more + 1 → old.ended ≡ false → new.ended ≡ true
+last_line_came : (old new : Reader) → old.more ≡ new.more + 1 → old.ended ≡ false → new.ended ≡ true
     → (line : List ℕ) (source left : SourceTold) → IsOneLine line → length line ≤ MOST_LENGTH
     → line ≢ [] → TookBytes line source left → HasEnded left
     → HearsLine old new (Ok None) line source left
-came_last old new more before ended line source left one few some took has =
+last_line_came old new more before ended line source left one few some took has =
     let next : old.more ≡ suc new.more = omega (arith, more) in record {
       bytes = line;
       took = took;
@@ -146,14 +148,15 @@ line_read : (next : NextLine) (old : Reader) → 0 < old.more → old.ended ≡ 
     → GaveLine (Ok next) line source left
     → HearsLine old (after_line old next) (Ok (no_line next)) line source left
 line_read Nothing old some going line source left few gave =
-    is_over old (after_line old Nothing) some refl refl line source left gave.0 gave.1
+    input_is_over old (after_line old Nothing) some refl refl line source left gave.0 gave.1
 line_read TooLong old some going line source left few gave =
     too_long old some going line source left gave
 line_read Whole old some going line source left few gave =
-    came_whole old (after_line old Whole) (omega arith) going going line source left gave.0 few
+    whole_line_came old (after_line old Whole) (omega arith) going going line source left gave.0 few
     gave.1
 line_read Last old some going line source left few gave =
-    came_last old (after_line old Last) (omega arith) going refl line source left gave.0 few gave.1
+    last_line_came old (after_line old Last) (omega arith) going refl line source left gave.0 few
+    gave.1
     gave.2 gave.3
 
 -- the line that was read, as it was counted

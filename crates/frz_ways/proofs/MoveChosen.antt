@@ -26,8 +26,9 @@ use Rattle.frz_graph.specs.FreeCodes.{free_among}
 use Rattle.frz_ways.specs.SeenMoves.{choices_by}
 use Rattle.frz_ways.proofs.Stages.{seen_by_codes}
 
-pub at_in : {X : Type 0} (xs : List X) (i : ℕ) (x : X) → slice_get xs i ≡ Some x → Contains xs x
-at_in {X} xs i x e =
+pub placed_is_contained : {X : Type 0} (xs : List X) (i : ℕ) (x : X) → slice_get xs i ≡ Some x
+    → Contains xs x
+placed_is_contained {X} xs i x e =
     subst (λ (z : X). Contains xs z) (get_or_from_slice_get xs i x x e)
     (All-contains_itself xs i x (slice_get_within xs i x e))
 

@@ -7,21 +7,23 @@ use Rattle.frz_ways.specs.Kept.{MayRead}
 abbrev pub and_now : (ℕ → List ℕ) → (played : ℕ) → List ℕ → ℕ → List ℕ
 and_now read played now k = if k == played then now else read k
 
-pub now_is : (read : ℕ → List ℕ) (played : ℕ) (now : List ℕ) → and_now read played now played ≡ now
-now_is read played now = let e = eq-eqb played played refl in rw e refl
+pub read_now_is_now : (read : ℕ → List ℕ) (played : ℕ) (now : List ℕ)
+    → and_now read played now played ≡ now
+read_now_is_now read played now = let e = eq-eqb played played refl in rw e refl
 
-pub before_is : (read : ℕ → List ℕ) (played : ℕ) (now : List ℕ) (k : ℕ) → k < played
+pub read_before_stays : (read : ℕ → List ℕ) (played : ℕ) (now : List ℕ) (k : ℕ) → k < played
     → and_now read played now k ≡ read k
-before_is read played now k l =
+read_before_stays read played now k l =
     elim (eqb_tells k played) [
       | inl w ↦ absurd (let e = w.1 in omega (arith, e, l))
       | inr w ↦ rw w.0 refl
     ]
 
-pub now_may : (known : Option (List ℕ)) (size : ℕ) (read : ℕ → List ℕ) (played : ℕ) (now : List ℕ)
+pub each_may_be_read : (known : Option (List ℕ)) (size : ℕ) (read : ℕ → List ℕ) (played : ℕ)
+    (now : List ℕ)
     → ((k : ℕ) → MayRead known size (read k)) → MayRead known size now → (k : ℕ)
     → MayRead known size (and_now read played now k)
-now_may known size read played now may this k = by_test (k == played)
+each_may_be_read known size read played now may this k = by_test (k == played)
   where
     by_test : (b : Bool) → MayRead known size (if b then now else read k)
     by_test true = this

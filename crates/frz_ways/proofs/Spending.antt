@@ -24,11 +24,11 @@ reads_one arena number = sum_by-cons (λ n. arms_reads (arena.arms n)) number []
 pub nothing_spent : (arena : Arena Step ℕ Value) (at : Spent) → SpendsAt arena 0 [] at at
 nothing_spent arena at = record { stepped = omega arith; called = omega arith; asked = omega arith }
 
-pub at_one : (arena : Arena Step ℕ Value) (number : ℕ) {before now : Spent}
+pub spends_at_one : (arena : Arena Step ℕ Value) (number : ℕ) {before now : Spent}
     → now.asked ≤ before.asked + 4 * arms_reads (arena.arms number)
     → now.calls ≤ before.calls + arms_reads (arena.arms number)
     → now.steps ≤ before.steps + 1 → SpendsAt arena 0 (number ∷ []) before now
-at_one arena number asked calls step =
+spends_at_one arena number asked calls step =
     let one = reads_one arena number in
     record {
       stepped = omega (arith, step);
@@ -94,8 +94,8 @@ came_on xs played number next plies others first whole came are to =
     append_assoc xs (number ∷ []) (way_numbers (Inside next) others)
     ∙ (ap (λ (l : List ℕ). xs ++ l) (sym on) ∙ came)
 
-one_more : (old new : ℕ) → IsNext old new → new ≤ old + 1
-one_more old new next = (let n = next.next in omega (arith, n))
+next_is_one_more : (old new : ℕ) → IsNext old new → new ≤ old + 1
+next_is_one_more old new next = (let n = next.next in omega (arith, n))
 
 -- the code of one number was read
 pub code_read : (old new : StoreTold) (steps : ℕ) → new.asked ≤ old.asked + 4
@@ -103,7 +103,7 @@ pub code_read : (old new : StoreTold) (steps : ℕ) → new.asked ≤ old.asked 
 code_read old new steps few next =
     record {
       stepped = omega arith;
-      called = one_more old.calls new.calls next;
+      called = next_is_one_more old.calls new.calls next;
       asked = omega (arith, few);
     }
 

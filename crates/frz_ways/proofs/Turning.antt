@@ -32,7 +32,7 @@ use Rattle.frz_ways.specs.declared.due.Due.TheVariants as dues
 use Rattle.frz_ways.specs.Dues.{due_by, due_on}
 use Rattle.frz_ways.specs.SeenMoves.{choices_by, IsNextCode}
 use Rattle.frz_ways.proofs.Choices.{found_code}
-use Rattle.frz_ways.proofs.MoveChosen.{at_in}
+use Rattle.frz_ways.proofs.MoveChosen.{placed_is_contained}
 use Rattle.frz_ways.proofs.PlyDues.{PlyDue, ply_due, never_failing, still_early}
 use Rattle.frz_ways.proofs.MovesOfOneNumber.{next_code_is}
 use Rattle.frz_ways.specs.declared.way_end.WayEnd.TheVariants as ends
@@ -51,9 +51,9 @@ use Rattle.frz_ways.specs.Hearing.{Hears}
 use Rattle.frz_ways.specs.Turns.{turn_of, by_codes, due_at, late_by, Answers, AfterHeard, PlaysPly, IsPlayed, own_turn, session_left, LeavesLess, TurnsTo}
 use Rattle.frz_ways.proofs.OtherStands.{other_stands}
 
-if_is : (b : Bool) (x y z : Due) → (if b then x else y) ≡ z → (x ≡ z) ⊎ (y ≡ z)
-if_is true x y z h = inl h
-if_is false x y z h = inr h
+either_is_result : (b : Bool) (x y z : Due) → (if b then x else y) ≡ z → (x ≡ z) ⊎ (y ≡ z)
+either_is_result true x y z h = inl h
+either_is_result false x y z h = inr h
 
 on_cut : (code : ℕ) (node : Node) → due_on false code node ≡ dues.Cut → ⊥
 on_cut code nodes.Broken h = absurd (cc)
@@ -68,10 +68,11 @@ on_cut code (nodes.Going m) h =
 never_cut : (is_start : Bool) (code given : ℕ) (node : Node) (due : Due)
     → due ≡ due_by is_start false code given node → due ≡ dues.Cut → ⊥
 never_cut is_start code given node due e cut =
-    elim (if_is (code == given)
+    elim (either_is_result (code == given)
     (if is_start && is_failure code then dues.NoBound else due_on false code node)
     (dues.Wrong given) dues.Cut (sym e ∙ cut)) [
-      | inl h ↦ elim (if_is (is_start && is_failure code) dues.NoBound (due_on false code node)
+      | inl h ↦ elim (either_is_result (is_start && is_failure code) dues.NoBound
+      (due_on false code node)
           dues.Cut h) [ inl n ↦ absurd (cc) | inr d ↦ on_cut code node d ]
       | inr h ↦ absurd (cc)
     ]
@@ -122,7 +123,7 @@ module _ {arena : Arena Step ℕ Value} {size : ℕ} (finite : IsFinite arena si
       → a.next ≡ Inside n → n < size
   inside_size place a there n leads =
       let among : IsArm arena cursor.number a = subst (λ (z : List (Arm Step ℕ Value)). Contains z a)
-      are (at_in arms place a there) in
+      are (placed_is_contained arms place a there) in
       (finite.inside cursor.number n a among leads).0
 
   no_failure : (code next : ℕ) → IsNextCode code next → is_failure next ≡ false
@@ -169,27 +170,30 @@ module _ {arena : Arena Step ℕ Value} {size : ℕ} (finite : IsFinite arena si
     others_differ White h = absurd (cc)
     others_differ Black h = refl
 
-  own_one : (m : Colour) (node : Node) → node ≡ nodes.Going m → same_colour m side ≡ true
+  own_turn_counts_one : (m : Colour) (node : Node) → node ≡ nodes.Going m
+      → same_colour m side ≡ true
       → own_turn side node ≡ 1
-  own_one m node e own = rw e (rw own refl)
+  own_turn_counts_one m node e own = rw e (rw own refl)
 
-  own_none : (node : Node) → ((c : Colour) → node ≡ nodes.Going c → same_colour c side ≡ false)
+  other_turn_counts_none : (node : Node)
+      → ((c : Colour) → node ≡ nodes.Going c → same_colour c side ≡ false)
       → own_turn side node ≡ 0
-  own_none nodes.Broken h = refl
-  own_none (nodes.Mate m) h = refl
-  own_none (nodes.Stalemate m) h = refl
-  own_none (nodes.Going m) h = (let e = h m refl in rw e refl)
+  other_turn_counts_none nodes.Broken h = refl
+  other_turn_counts_none (nodes.Mate m) h = refl
+  other_turn_counts_none (nodes.Stalemate m) h = refl
+  other_turn_counts_none (nodes.Going m) h = (let e = h m refl in rw e refl)
 
-  left_own : Alternates arena → (m : Colour) → IsDue (dues.Ply m) → same_colour m side ≡ true
+  less_left_own : Alternates arena → (m : Colour) → IsDue (dues.Ply m) → same_colour m side ≡ true
       → (more place : ℕ) (a : Arm Step ℕ Value) → slice_get arms place ≡ Some a → (n : ℕ)
       → a.next ≡ Inside n → session_left arena side more n < session_left arena side more
       cursor.number
-  left_own alternates m e own more place a there n leads =
+  less_left_own alternates m e own more place a there n leads =
       let d = ply_is_due m e in
       let among : Contains (arena.arms cursor.number) a = subst
-      (λ (z : List (Arm Step ℕ Value)). Contains z a) are (at_in arms place a there) in
-      let here = own_one m (arena.node cursor.number) d.goes own in
-      let next = own_none (arena.node n)
+      (λ (z : List (Arm Step ℕ Value)). Contains z a) are
+      (placed_is_contained arms place a there) in
+      let here = own_turn_counts_one m (arena.node cursor.number) d.goes own in
+      let next = other_turn_counts_none (arena.node n)
       (λ c g. subst (λ z. same_colour z side ≡ false)
       (sym (alternates.turns cursor.number a m c n among leads d.goes g)) (same_other m own)) in
       omega (arith, here, next)
@@ -210,7 +214,7 @@ module _ {arena : Arena Step ℕ Value} {size : ℕ} (finite : IsFinite arena si
       (next, still_early cursor.code cursor.played LINE_LIMIT early)
   less_by_codes alternates opponents.Input is m e own old new same place a there next n leads =
       subst (λ k. session_left arena side k n < session_left arena side old.more cursor.number)
-      (sym same) (left_own alternates m e own old.more place a there n leads)
+      (sym same) (less_left_own alternates m e own old.more place a there n leads)
 
   -- a reply leaves less to do
   less_by_reply : (o : Opponent) (own : Bool) → by_codes o own ≡ false → (old new : Reader)

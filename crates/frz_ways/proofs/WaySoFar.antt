@@ -18,7 +18,7 @@ use Rattle.frz_ways.specs.Costs.{way_numbers, SpendsAt}
 use Rattle.frz_ways.specs.Kept.{MayRead}
 use Rattle.frz_ways.proofs.CodesGathered.{any_read}
 use Rattle.frz_ways.proofs.CodesKept.{may_before}
-use Rattle.frz_ways.proofs.ReadBefore.{and_now, before_is, now_is, now_may}
+use Rattle.frz_ways.proofs.ReadBefore.{and_now, each_may_be_read, read_before_stays, read_now_is_now}
 use Rattle.frz_ways.proofs.Spending.{came_on, nothing_spent, spends_last, spends_on}
 use Rattle.frz_ways.specs.declared.way_end.Finish.{Finish}
 use Rattle.frz_ways.specs.declared.way_end.Finish.TheVariants.{Here, Left}
@@ -112,8 +112,8 @@ at_start known size arena opponent side start code first source out now = record
       };
 }
 
-more_is : (k : ℕ) → (k + 1 == 0) ≡ false
-more_is k = grind (arith, nat_tests)
+next_is_not_zero : (k : ℕ) → (k + 1 == 0) ≡ false
+next_is_not_zero k = grind (arith, nat_tests)
 
 follows_both : (old new : Reader) (bytes left : List ℕ) → StaysEnded old new bytes
     → MayFollow new left → MayFollow old (bytes ++ left)
@@ -140,7 +140,7 @@ after_ply arena opponent side kept start code lines cursor next old new numbers 
     let here : Input = record { left = left; more = new.more } in
     let played : suc cursor.played ≡ next.played = (omega (arith, e)) in
     let later : (next.played == 0) ≡ false = subst (λ (k : ℕ). (k == 0) ≡ false) (sym e)
-    (more_is cursor.played) in
+    (next_is_not_zero cursor.played) in
     let rest : rest_text opponent side next others end ≡ g.0 =
     ap (λ (b : Bool). (if b then start_line side next.code others end else [])
     ++ (plies_text opponent side others ++ end_text end)) later ∙ sym g.2.1.5 in
@@ -316,10 +316,10 @@ module _ (known : Option Files → Option (List ℕ)) {files now_files : Option 
       taken before after
 
   -- what may be read after each ply
-  all_may : (read : List ℕ) → MayRead (known now_files) size read → (k : ℕ)
+  all_may_be_read : (read : List ℕ) → MayRead (known now_files) size read → (k : ℕ)
       → MayRead (known files) size (and_now far.read cursor.played read k)
-  all_may read may =
-      now_may (known files) size far.read cursor.played read far.may
+  all_may_be_read read may =
+      each_may_be_read (known files) size far.read cursor.played read far.may
       (may_before known size read same may)
 
   -- a ply was played
@@ -340,14 +340,14 @@ module _ (known : Option Files → Option (List ℕ)) {files now_files : Option 
         numbers = far.numbers ++ cursor.number ∷ [];
         spent = spends_on arena far.numbers (cursor.number ∷ []) before now after far.spent few;
         read = and_now far.read cursor.played goes.0;
-        may = all_may goes.0 goes.1;
+        may = all_may_be_read goes.0 goes.1;
         comes = λ kept alike.
             after_ply arena opponent side kept start code first.more cursor there old new far.numbers
             far.bytes w.1 far.text w.0 refl w.5 (far.comes kept (λ k l. alike k (omega (arith, l))
-            ∙ before_is far.read cursor.played goes.0 k l))
+            ∙ read_before_stays far.read cursor.played goes.0 k l))
             (subst (λ (t : Turn). GoesBy arena opponent side kept cursor old new w.1 w.0 (Ok t)) on
             (goes.2 kept (alike cursor.played (omega arith)
-            ∙ now_is far.read cursor.played goes.0)));
+            ∙ read_now_is_now far.read cursor.played goes.0)));
       }
 
   last_far : (answer : Result Finish PlayFault) → IsFrom cursor.number answer
@@ -362,12 +362,12 @@ module _ (known : Option Files → Option (List ℕ)) {files now_files : Option 
     stays_on first old new far.bytes w.1 far.stays w.5,
     (
       and_now far.read cursor.played goes.0,
-      all_may goes.0 goes.1,
+      all_may_be_read goes.0 goes.1,
       λ kept alike.
           played_out arena opponent side kept start code cursor first old new far.numbers far.bytes
           w.1 far.text w.0 answer before now after far.spent few w.5 from
-          (far.comes kept (λ k l. alike k ∙ before_is far.read cursor.played goes.0 k l))
-          (goes.2 kept (alike cursor.played ∙ now_is far.read cursor.played goes.0)),
+          (far.comes kept (λ k l. alike k ∙ read_before_stays far.read cursor.played goes.0 k l))
+          (goes.2 kept (alike cursor.played ∙ read_now_is_now far.read cursor.played goes.0)),
     ),
   )
 

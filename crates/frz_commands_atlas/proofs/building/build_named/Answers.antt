@@ -5,9 +5,9 @@ use Rattle.frz_answer.specs.World.{world}
 use Rattle.frz_answer.proofs.Lemmas.{quiet_store}
 use Rattle.frz_prelude.specs.declared.rules_at.RulesText.{RulesText}
 use Rattle.frz_prelude.proofs.Lemmas.{ended, may_stop}
-use Rattle.frz_atlas_prelude.proofs.Lemmas.{first_alone, not_contained}
+use Rattle.frz_atlas_prelude.proofs.Lemmas.{first_differs_from_others, not_contained}
 use Rattle.frz_commands_atlas.specs.Building.{building_at}
-use Rattle.frz_commands_atlas.proofs.BuildEnds.{made_so, not_made_so, own_stop, small_place, stopped_at}
+use Rattle.frz_commands_atlas.proofs.BuildEnds.{not_made_so, own_stop, small_place, stopped_at, table_is_made}
 use Rattle.frz_commands_atlas.proofs.building.build_named.Goals as goal
 
 pub returns-in-Err : goal.returns-in-Err
@@ -30,14 +30,15 @@ build_atlas-requires g c =
     let rules = c.args.rules.now in
     let table = c.args.table.now in
     let behind = map string_bytes c.args.behind.now in
-    let others = first_alone rules (table ∷ behind) c.requires.apart in
-    not_contained table behind (first_alone table behind others.1).0
+    let others = first_differs_from_others rules (table ∷ behind) c.requires.apart in
+    not_contained table behind (first_differs_from_others table behind others.1).0
 
 pub returns-in-Ok-build_atlas : goal.returns-in-Ok-build_atlas
 returns-in-Ok-build_atlas g c = λ input.
     let e = c.in-Ok.ensures in
     let b = c.in-Ok-build_atlas.ensures in
-    made_so c.args.rules.now c.args.table.now (map string_bytes c.args.behind.now) c.requires.apart
+    table_is_made c.args.rules.now c.args.table.now (map string_bytes c.args.behind.now)
+    c.requires.apart
     c.in-Ok.read _ _ _ _ _ e.read e.quiet e.cause b.later input _ c.in-Ok-build_atlas.size _ _
     (rw c.deref.ensures.value at b.built) b.room c.tell.ensures
 

@@ -1,11 +1,12 @@
-use Rattle.frz_commands_atlas.proofs.CheckEnds.{refused_so, small_place, told_so}
+use Rattle.frz_commands_atlas.proofs.CheckEnds.{refused_so, small_place, verdict_is_told}
 use Rattle.frz_commands_atlas.proofs.checking.check_named.Goals as goal
 
 pub returns-in-Ok : goal.returns-in-Ok
 returns-in-Ok g c = λ input.
     let e = c.in-Ok.ensures in
     let written = rw c.deref.ensures.value at c.write_verdict.ensures in
-    told_so c.args.table.now _ c.requires.apart _ _ _ _ e.quiet e.later input _ _ _ c.in-Ok.checked
+    verdict_is_told c.args.table.now _ c.requires.apart _ _ _ _ e.quiet e.later input _ _ _
+    c.in-Ok.checked
     e.cause e.verdict (rw c.status_of.ensures at (c.said.ensures _ _ _ written))
 
 pub end_at-requires : goal.end_at-requires

@@ -1,6 +1,6 @@
 use Rattle.std.proofs.Common.{arith}
 use Rattle.frz_atlas_prelude.proofs.Lemmas.{small_unread}
-use Rattle.frz_commands_atlas.proofs.ReportEnds.{refused_so, told_so}
+use Rattle.frz_commands_atlas.proofs.ReportEnds.{refused_so, report_is_told}
 use Rattle.frz_commands_atlas.proofs.reporting.report_named.Goals as goal
 
 pub returns-in-Ok : goal.returns-in-Ok
@@ -8,7 +8,8 @@ returns-in-Ok g c = λ input.
     let e = c.in-Ok.ensures in
     let r = c.report_loaded.ensures in
     rw c.end_of.ensures
-    (told_so c.args.table.now _ c.requires.apart _ _ _ _ e.quiet r.later input _ c.in-Ok.loaded
+    (report_is_told c.args.table.now _ c.requires.apart _ _ _ _ e.quiet r.later input _
+    c.in-Ok.loaded
     e.loaded r.steps c.report_loaded.result _ e.cause r.stored r.wrote)
 
 pub end_at-requires : goal.end_at-requires

@@ -3,7 +3,7 @@ use Rattle.std.specs.Prelude.{map}
 use Rattle.std.specs.String.{string_bytes}
 use Rattle.frz_rules.proofs.Lemmas.{text_sound}
 use Rattle.frz_store.specs.Told.{store_of}
-use Rattle.frz_commands_premises.proofs.TablesFound.{found_so, memory_wanted}
+use Rattle.frz_commands_premises.proofs.TablesFound.{lines_are_found, memory_wanted}
 use Rattle.frz_commands_premises.proofs.premises.find_lines.Goals as goal
 
 pub new-requires : goal.new-requires
@@ -25,7 +25,7 @@ pub returns-clause-found : goal.returns-clause-found
 returns-clause-found g c =
     let steps = rw c.deref.ensures.value at c.in_ok-premise_lines.ensures.steps in
     let told = rw c.deref.ensures.value at c.in_ok-premise_lines.ensures.told in
-    found_so c.args.read.now.text.items c.args.read.now.rules
+    lines_are_found c.args.read.now.text.items c.args.read.now.rules
     (map string_bytes c.args.behind.now) (store_of g.S.Store c.args.store.now)
     (store_of g.S.Store c.open_behind.new.store) c.args.steps.now c.open_behind.new.steps
     c.premise_lines.new.steps c.in_ok-backs.backs.items c.in_ok-backs.ensures.opened steps

@@ -6,7 +6,7 @@ use Rattle.frz_answer.proofs.Lemmas.{quiet_store}
 use Rattle.frz_prelude.specs.declared.rules_at.RulesText.{RulesText}
 use Rattle.frz_prelude.proofs.Lemmas.{ended, may_stop}
 use Rattle.frz_commands_premises.specs.Premising.{premising_at}
-use Rattle.frz_commands_premises.proofs.PremisesEnd.{lines_writable, own_stop, refused_so, small_place, stopped_at, told_so}
+use Rattle.frz_commands_premises.proofs.PremisesEnd.{lines_writable, own_stop, premises_are_told, refused_so, small_place, stopped_at}
 use Rattle.frz_commands_premises.proofs.premises.tell_named.Goals as goal
 
 pub returns-in-Err : goal.returns-in-Err
@@ -33,7 +33,8 @@ pub returns-in-Ok-find_lines : goal.returns-in-Ok-find_lines
 returns-in-Ok-find_lines g c = λ input.
     let e = c.in-Ok.ensures in
     let f = c.in-Ok-find_lines.ensures in
-    told_so c.args.rules.now (map string_bytes c.args.behind.now) c.requires.apart c.in-Ok.read
+    premises_are_told c.args.rules.now (map string_bytes c.args.behind.now) c.requires.apart
+    c.in-Ok.read
     _ _ _ _ _ e.read e.quiet e.cause f.quiet f.later input _ _ _ c.in-Ok-find_lines.lines.items
     f.found f.cause (c.said.ensures _ _ _ (rw c.deref.ensures.value at c.write_lines.ensures))
 

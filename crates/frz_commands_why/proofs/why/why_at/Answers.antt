@@ -3,14 +3,14 @@ use Rattle.frz_store.specs.Told.{sink_of}
 use Rattle.frz_chain.specs.declared.back.BackTable.{BackTable}
 use Rattle.frz_commands_why.specs.Ending.{EndsIn}
 use Rattle.frz_commands_why.proofs.Loaded.{small_unloaded}
-use Rattle.frz_commands_why.proofs.Running.{refused_so, told_so}
+use Rattle.frz_commands_why.proofs.Running.{refused_so, why_is_told}
 use Rattle.frz_commands_why.proofs.why.why_at.Goals as goal
 
 pub returns-in-Ok : goal.returns-in-Ok
 returns-in-Ok g c = λ input.
     let e = c.in-Ok.ensures in
     let r = c.why_in.ensures in
-    told_so c.one_failing_way.ensures.there c.args.table.now _ c.requires.apart c.args.side
+    why_is_told c.one_failing_way.ensures.there c.args.table.now _ c.requires.apart c.args.side
     c.args.p.now _ _ _ _ e.quiet r.later input _ c.in-Ok.own c.in-Ok.backs.items e.loaded r.steps
     c.why_in.result _ e.cause
     (subst (λ (l : List BackTable). EndsIn c.in-Ok.own l c.args.side c.args.p.now c.why_in.result

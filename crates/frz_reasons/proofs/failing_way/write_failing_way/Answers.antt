@@ -1,6 +1,6 @@
 use Rattle.std.proofs.Common.{arith}
 use Rattle.frz_store.specs.Told.{sink_of}
-use Rattle.frz_reasons.proofs.Lengths.{goes_less}
+use Rattle.frz_reasons.proofs.Lengths.{next_failure_is_shorter}
 use Rattle.frz_reasons.proofs.OneWay.{way_behind}
 use Rattle.frz_reasons.proofs.MovePlayed.{played_arm, plays_on}
 use Rattle.frz_reasons.proofs.Telling.{at_start, goes_so_far, told_failed, told_out, told_over}
@@ -59,7 +59,7 @@ plies-preserved g c =
     let arm = c.in-Played.arm in
     let played = c.in-Played.ensures.turn in
     let failing = c.plies.invariant.failing in
-    let less = goes_less arena side codes number c.in-Inside.next arm
+    let less = next_failure_is_shorter arena side codes number c.in-Inside.next arm
     (plays_on arena side codes number (c.failures_are_spoiled.ensures arena finite.lawful side codes
     number failing played.agrees) arm played) c.in-Inside.is in
     let fewer = less.0 in
@@ -88,7 +88,7 @@ plies-smaller g c =
     let number = c.plies.number in
     let arm = c.in-Played.arm in
     let played = c.in-Played.ensures.turn in
-    let fewer = (goes_less arena side codes number c.in-Inside.next arm
+    let fewer = (next_failure_is_shorter arena side codes number c.in-Inside.next arm
     (plays_on arena side codes number (c.failures_are_spoiled.ensures arena finite.lawful side codes
     number c.plies.invariant.failing played.agrees) arm played) c.in-Inside.is).0 in
     omega (arith, fewer)

@@ -1,5 +1,5 @@
 use Rattle.std.proofs.Common.{◌<◌, ◌+◌, length, arith}
-use Rattle.frz_report.proofs.Classing.{at_front, at_more, below_few, below_more}
+use Rattle.frz_report.proofs.Classing.{at_front, below_few, below_more, one_cell_more}
 use Rattle.frz_report.proofs.class.push_letters.Goals as goal
 
 pub push_if-requires-clause-room : goal.push_if-requires-clause-room
@@ -7,7 +7,7 @@ push_if-requires-clause-room c =
     let cells = c.args.cells.now in
     let i = c.loop-standing.standing-index in
     let within : i < length cells = omega arith in
-    let one = at_more c.args.cell cells i within in
+    let one = one_cell_more c.args.cell cells i within in
     let front = at_front c.args.cell cells (i + 1) in
     let both = below_more c.args.cell cells in
     let most = below_few (c.args.cell + 1) cells in

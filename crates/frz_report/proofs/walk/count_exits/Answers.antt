@@ -7,7 +7,7 @@ use Rattle.frz_game.specs.Games.{graph_by}
 use Rattle.frz_index.proofs.Lemmas.{position_tells}
 use Rattle.frz_report.specs.Exits.{classes_after, exits_below}
 use Rattle.frz_report.specs.Walks.{Counts}
-use Rattle.frz_report.proofs.Looking.{counted_more, few_more, on_ok, total_more}
+use Rattle.frz_report.proofs.Looking.{counted_more, few_with_one_more, on_ok, total_more}
 use Rattle.frz_report.proofs.Walking.{arms_legal}
 use Rattle.frz_report.proofs.walk.count_exits.Goals as goal
 
@@ -65,6 +65,6 @@ returns-clause-few g c =
     let rules = c.args.game.now.rules.now in
     let value = g.B.ExitBook.value_at c.args.game.now.book.now in
     on_ok _ _ c.note_all.result
-    (λ h. few_more rules value c.args.number c.args.p.now c.as_slice.result.now
+    (λ h. few_with_one_more rules value c.args.number c.args.p.now c.as_slice.result.now
     c.args.census.now.total c.note_all.new.self.total c.as_slice.ensures.fits c.requires.few h)
     c.note_all.ensures.total

@@ -4,7 +4,7 @@ use Rattle.frz_store.specs.Told.{SourceTold, source_of}
 use Rattle.frz_ways.specs.declared.session_end.TheConstants.{MOST_LENGTH}
 use Rattle.frz_ways.specs.Hearing.{GaveByte, IsOneLine}
 use Rattle.frz_ways.specs.SessionFaults.{TookBytes}
-use Rattle.frz_ways.proofs.InputLines.{one_more}
+use Rattle.frz_ways.proofs.InputLines.{one_byte_more}
 use Rattle.frz_ways.proofs.Taking.{took_on}
 use Rattle.frz_ways.proofs.input_line.read_line.Goals as goal
 
@@ -41,7 +41,7 @@ returns-then-is_full-clause-gave g c =
     let many = full_is (length c.bytes.line.items) c.if-is_full.ensures.value in
     let long = length-append c.bytes.line.items (c.in-Some.byte ∷ []) in (
       c.bytes.line.items ++ c.in-Some.byte ∷ [],
-      one_more c.bytes.line.items c.in-Some.byte c.bytes.invariant.one c.in-Some.byte-test.1,
+      one_byte_more c.bytes.line.items c.in-Some.byte c.bytes.invariant.one c.in-Some.byte-test.1,
       omega (arith, many, long),
       took_on c.bytes.line.items (c.in-Some.byte ∷ []) start before after
           c.bytes.invariant.took
@@ -60,7 +60,8 @@ bytes-preserved g c =
     c.bytes.invariant.short in
     record {
       one = subst IsOneLine (sym items)
-          (one_more c.bytes.line.items c.in-Some.byte c.bytes.invariant.one c.in-Some.byte-test.1);
+          (one_byte_more c.bytes.line.items c.in-Some.byte c.bytes.invariant.one
+          c.in-Some.byte-test.1);
       took = subst (λ (l : List ℕ). TookBytes l start after) (sym items)
           (took_on c.bytes.line.items (c.in-Some.byte ∷ []) start before after
           c.bytes.invariant.took

@@ -5,9 +5,9 @@ use Rattle.frz_table.proofs.Lemmas.{fine_after, quiet_after}
 use Rattle.frz_ways.specs.declared.playing.Turn.{Turn}
 use Rattle.frz_ways.specs.declared.playing.Turn.TheVariants.{On}
 use Rattle.frz_ways.specs.Turns.{TurnsTo}
-use Rattle.frz_ways.proofs.Counting.{few_at_start, few_on, left_on, quiet_here}
+use Rattle.frz_ways.proofs.Counting.{few_at_start, few_left_next, less_left_next, quiet_here}
 use Rattle.frz_ways.proofs.WaySoFar.{at_start, next_far, out_far, over_far, fault_far}
-use Rattle.frz_ways.proofs.Spending.{at_one}
+use Rattle.frz_ways.proofs.Spending.{spends_at_one}
 use Rattle.frz_ways.proofs.way.play_way.Goals as goal
 
 pub plies-init : goal.plies-init
@@ -37,7 +37,8 @@ returns-in_err-end-clause-wrote g c =
     let e = c.in_err-end.ensures in
     fault_far (λ f. g.T.KeptCodes.known c.args.table.now f c.args.player.side) c.turn.new.reader _ _
     c.plies.invariant.quiet.unwritten.files c.plies.invariant.far
-    (at_one (g.G.NumberedGame.arena c.args.game.now) c.plies.cursor.number e.asked e.calls e.step)
+    (spends_at_one (g.G.NumberedGame.arena c.args.game.now) c.plies.cursor.number e.asked e.calls
+    e.step)
     c.in_err-end.field-0.0 c.from_residual.result c.from_residual.ensures.1 e.wrote
 
 pub returns-in-Over-clause-wrote : goal.returns-in-Over-clause-wrote
@@ -45,7 +46,8 @@ returns-in-Over-clause-wrote g c =
     let e = c.in_ok-end.ensures in
     over_far (λ f. g.T.KeptCodes.known c.args.table.now f c.args.player.side) c.turn.new.reader _ _
     c.plies.invariant.quiet.unwritten.files c.plies.invariant.far
-    (at_one (g.G.NumberedGame.arena c.args.game.now) c.plies.cursor.number e.asked e.calls e.step)
+    (spends_at_one (g.G.NumberedGame.arena c.args.game.now) c.plies.cursor.number e.asked e.calls
+    e.step)
     c.in-Over.is e.wrote
 
 pub returns-in-Out-clause-wrote : goal.returns-in-Out-clause-wrote
@@ -53,7 +55,8 @@ returns-in-Out-clause-wrote g c =
     let e = c.in_ok-end.ensures in
     out_far (λ f. g.T.KeptCodes.known c.args.table.now f c.args.player.side) c.turn.new.reader _ _
     c.plies.invariant.quiet.unwritten.files c.plies.invariant.far
-    (at_one (g.G.NumberedGame.arena c.args.game.now) c.plies.cursor.number e.asked e.calls e.step)
+    (spends_at_one (g.G.NumberedGame.arena c.args.game.now) c.plies.cursor.number e.asked e.calls
+    e.step)
     c.in-Out.is e.wrote
 
 pub plies-preserved : goal.plies-preserved
@@ -72,12 +75,12 @@ plies-preserved g c =
       inside = to.0;
       stands = inr to.1;
       ended = e.still_ended;
-      few = few_on arena side c.plies.cursor c.plies.reader c.turn.new.reader c.in-On.number
+      few = few_left_next arena side c.plies.cursor c.plies.reader c.turn.new.reader c.in-On.number
           c.in-On.code opponent to.2 c.plies.invariant.few;
       no_more = (let a = c.plies.invariant.no_more in let b = e.no_more in omega (arith, a, b));
       far = next_far (λ f. g.T.KeptCodes.known c.args.table.now f side) c.turn.new.reader _ _
           c.plies.invariant.quiet.unwritten.files c.plies.invariant.far
-          (at_one arena c.plies.cursor.number e.asked e.calls e.step) c.in-On.is e.wrote;
+          (spends_at_one arena c.plies.cursor.number e.asked e.calls e.step) c.in-On.is e.wrote;
       unread = λ by. e.unread by ∙ c.plies.invariant.unread by;
       quiet = quiet_after (told c.args.store.now) (told c.plies.store) (told c.turn.new.store)
           c.plies.invariant.quiet e.quiet;
@@ -97,5 +100,6 @@ plies-smaller g c =
     (On c.in-On.number c.in-On.code) =
     subst (λ (t : Turn). TurnsTo arena size opponent side c.plies.cursor c.plies.reader
     c.turn.new.reader t) c.in-On.is c.in_ok-end.ensures.next in
-    left_on arena side c.plies.cursor c.plies.reader c.turn.new.reader c.in-On.number c.in-On.code
+    less_left_next arena side c.plies.cursor c.plies.reader c.turn.new.reader c.in-On.number
+    c.in-On.code
     opponent to.2
