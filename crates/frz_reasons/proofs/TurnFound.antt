@@ -21,7 +21,7 @@ use Rattle.frz_reasons.specs.FailingWays.{IsPlayedAt, FailsFrom}
 use Rattle.frz_reasons.specs.FailuresTell.{FailsAt, code_behind, mated, renounced, moves, waits}
 use Rattle.frz_reasons.specs.Places.{is_one, IsOneAt}
 use Rattle.frz_reasons.proofs.Codes.{other_side}
-use Rattle.frz_reasons.proofs.MovePlayed.{is_one as as_candidate}
+use Rattle.frz_reasons.proofs.MovePlayed.{free_and_coded_is_candidate}
 
 -- the code at the place of an arm
 code_there : (f : Arm Step ℕ Value → ℕ) (arms : List (Arm Step ℕ Value)) (k : ℕ)
@@ -111,12 +111,13 @@ module _ (arena : Arena Step ℕ Value) (size : ℕ) (finite : IsFinite arena si
   renounced_there (renounced n three nothing) none = ways.renounced agrees n nothing
   renounced_there (moves n a i t less each) none =
       let p = arm_has_place a i in
-      absurd (none p.0 (tested_is_one p.0 a p.1 (as_candidate arena side codes mover asked a
-      (λ _. t) (asked_by a less))))
+      absurd (none p.0 (tested_is_one p.0 a p.1
+      (free_and_coded_is_candidate arena side codes mover asked a (λ _. t) (asked_by a less))))
   renounced_there (waits n a i f less each) none =
       let p = arm_has_place a i in
       let theirs : mover ≡ other_of side = (let e = sym turn ∙ n in cc) in
-      absurd (none p.0 (tested_is_one p.0 a p.1 (as_candidate arena side codes mover asked a
+      absurd (none p.0 (tested_is_one p.0 a p.1
+      (free_and_coded_is_candidate arena side codes mover asked a
       (λ own. absurd (let c = ap (λ m. same_colour m side) theirs ∙ other_side side in cc))
       (asked_by a less))))
 
