@@ -143,10 +143,10 @@ begun_otherwise b name (x ∷ bytes) are h = by_test (ltb (length (x ∷ bytes))
       text = refl;
     }
 
-as_it_is : (name bytes : List ℕ) (fault : TableFault) → AreBytes bytes
+refused_as_it_is : (name bytes : List ℕ) (fault : TableFault) → AreBytes bytes
     → Refuses (opened (table_format (kind_of bytes)) (Some bytes)) fault
     → RefusedAlike None name (Some bytes) fault
-as_it_is name bytes fault are h =
+refused_as_it_is name bytes fault are h =
     record { held = Some bytes; may = are; refuses = h; text = refl }
 
 untold_alike : (b : Bool) (name : List ℕ) (held : Option (List ℕ)) (fault : TableFault)
@@ -156,19 +156,20 @@ unfolding opened
 untold_alike b name None fault may h = record { held = None; may = tt; refuses = h; text = refl }
 untold_alike b name (Some bytes) Magic may h = begun_otherwise b name bytes may h
 untold_alike b name (Some bytes) Missing may h =
-    as_it_is name bytes Missing may (refused_own b bytes Missing (λ e. absurd (cc)) h)
+    refused_as_it_is name bytes Missing may (refused_own b bytes Missing (λ e. absurd (cc)) h)
 untold_alike b name (Some bytes) (Truncated n due) may h =
-    as_it_is name bytes (Truncated n due) may
+    refused_as_it_is name bytes (Truncated n due) may
     (refused_own b bytes (Truncated n due) (λ e. absurd (cc)) h)
 untold_alike b name (Some bytes) (Extra n due) may h =
-    as_it_is name bytes (Extra n due) may (refused_own b bytes (Extra n due) (λ e. absurd (cc)) h)
+    refused_as_it_is name bytes (Extra n due) may
+    (refused_own b bytes (Extra n due) (λ e. absurd (cc)) h)
 untold_alike b name (Some bytes) (Rules f) may h =
-    as_it_is name bytes (Rules f) may (refused_own b bytes (Rules f) (λ e. absurd (cc)) h)
+    refused_as_it_is name bytes (Rules f) may (refused_own b bytes (Rules f) (λ e. absurd (cc)) h)
 untold_alike b name (Some bytes) (Size kept due) may h =
-    as_it_is name bytes (Size kept due) may
+    refused_as_it_is name bytes (Size kept due) may
     (refused_own b bytes (Size kept due) (λ e. absurd (cc)) h)
-untold_alike b name (Some bytes) Failed may h = as_it_is name bytes Failed may tt
-untold_alike b name (Some bytes) NoMemory may h = as_it_is name bytes NoMemory may tt
+untold_alike b name (Some bytes) Failed may h = refused_as_it_is name bytes Failed may tt
+untold_alike b name (Some bytes) NoMemory may h = refused_as_it_is name bytes NoMemory may tt
 
 refused_alike : (b : Bool) (files : Option Files) (name : List ℕ) (held : Option (List ℕ))
     (fault : TableFault) → IfSome files (λ m. kind_held (m name) ≡ kind_by b)

@@ -10,7 +10,7 @@ use Rattle.frz_exits.proofs.Lemmas.{small_values}
 use Rattle.frz_game.specs.SmallLags.{HasSmallLags}
 use Rattle.frz_index.specs.Membership.{number_of}
 use Rattle.frz_chain.specs.Books.{Back}
-use Rattle.frz_chain.proofs.Lemmas.{of_either, told_small}
+use Rattle.frz_chain.proofs.Lemmas.{holds_of_either_value, told_small}
 use Rattle.frz_backs.specs.Links.{value_over}
 use Rattle.frz_backs.specs.Values.{atlas_value, first_value}
 use Rattle.frz_backs.proofs.FirstValue.{first_of}
@@ -23,7 +23,7 @@ first_small backs q =
 pub atlas_small : (rules : RuleLines) (backs : List Back) → IsSound rules
     → HasSmallLags (atlas_value rules backs)
 atlas_small rules backs sound q valid =
-    of_either (λ (v : Value). lag_of v ≤ 1000) (value_by rules q) (first_value backs q)
+    holds_of_either_value (λ (v : Value). lag_of v ≤ 1000) (value_by rules q) (first_value backs q)
     (small_values rules sound q)
     (first_small backs q)
 

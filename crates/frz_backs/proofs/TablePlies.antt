@@ -7,7 +7,7 @@ use Rattle.frz_exits.specs.Books.{value_by}
 use Rattle.frz_game.specs.Values.{AreTrueExits}
 use Rattle.frz_chain.specs.Books.{Back, back_value}
 use Rattle.frz_chain.specs.ChainPlies.{OwnWinsNumbered}
-use Rattle.frz_chain.proofs.Lemmas.{ExitsForced, Forced, of_either, own_forced, unknown_forced}
+use Rattle.frz_chain.proofs.Lemmas.{ExitsForced, Forced, holds_of_either_value, own_forced, unknown_forced}
 use Rattle.frz_backs.specs.Values.{atlas_value, first_value}
 use Rattle.frz_backs.proofs.FirstValue.{first_of}
 
@@ -26,6 +26,6 @@ pub over_forced : (rules : RuleLines) (backs : List Back) (side : Colour) (most 
     OwnWinsNumbered rules (atlas_value rules backs) side →
     ExitsForced rules (atlas_value rules backs) side most
 over_forced rules backs side most told own numbered q x =
-    of_either (Forced side most q) (value_by rules q) (first_value backs q)
+    holds_of_either_value (Forced side most q) (value_by rules q) (first_value backs q)
     (own_forced rules (atlas_value rules backs) side own numbered most q x)
     (first_forced backs side most told q)

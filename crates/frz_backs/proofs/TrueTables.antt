@@ -9,7 +9,7 @@ use Rattle.frz_exits.specs.Books.{value_by}
 use Rattle.frz_game.specs.Values.{AreTrueExits, IsTrueValue}
 use Rattle.frz_chain.specs.Books.{Back, back_value}
 use Rattle.frz_chain.specs.FileOn.{IsExactBack}
-use Rattle.frz_chain.proofs.Lemmas.{back_true, of_either}
+use Rattle.frz_chain.proofs.Lemmas.{back_true, holds_of_either_value}
 use Rattle.frz_backs.specs.Links.{AreExact, AreExactOver, AreTrueLines, Link, backs_of, value_over}
 use Rattle.frz_backs.specs.Values.{atlas_value, first_value}
 use Rattle.frz_backs.proofs.FirstValue.{first_of}
@@ -27,7 +27,7 @@ first_true backs told q =
 pub over_true : (rules : RuleLines) (backs : List Back) → All TellsTrue backs →
     AreTrueExits rules (value_by rules) → AreTrueExits rules (atlas_value rules backs)
 over_true rules backs told own p m member legal outside =
-    of_either (λ (v : Value). IsTrueValue v (after p m)) (value_by rules (after p m))
+    holds_of_either_value (λ (v : Value). IsTrueValue v (after p m)) (value_by rules (after p m))
     (first_value backs (after p m))
     (own p m member legal outside)
     (first_true backs told (after p m))

@@ -19,12 +19,12 @@ either_holds : (P : Value → Type 0) (v rest : Value) (test : Bool) → (test �
 either_holds P v rest true h k = h refl
 either_holds P v rest false h k = k
 
-pub of_pairs : (P : Value → Type 0) (white black : ℕ)
+pub holds_of_pair_value : (P : Value → Type 0) (white black : ℕ)
     → (is_win white ≡ true → P WhiteWins) → (is_win black ≡ true → P BlackWins)
     → (white ≡ 1 → black ≡ 1 → P Draw) → (white ≡ 1 → P WhiteHolds) → (black ≡ 1 → P BlackHolds)
     → P Unknown
     → P (pair_value white black)
-of_pairs P white black white_wins black_wins draw white_holds black_holds unknown =
+holds_of_pair_value P white black white_wins black_wins draw white_holds black_holds unknown =
     let fifth : Value = if is_failure white && (black == 1) then BlackHolds else Unknown in
     let fourth : Value = if (white == 1) && is_failure black then WhiteHolds else fifth in
     let third : Value = if (white == 1) && (black == 1) then Draw else fourth in
@@ -47,12 +47,12 @@ pub win_told : (back : Back) (side : Colour) (i : ℕ) → class_of (told_at bac
     → is_win (slice_index (back_codes back side) i) ≡ true
 win_told back White i =
     let white = slice_index back.white i in
-    of_pairs (λ (v : Value). class_of v White ≡ Good → is_win white ≡ true) white
+    holds_of_pair_value (λ (v : Value). class_of v White ≡ Good → is_win white ≡ true) white
     (slice_index back.black i) (λ win good. win) (λ w good. absurd (cc)) (λ w b good. absurd (cc))
     (λ w good. absurd (cc)) (λ b good. absurd (cc)) (λ good. absurd (cc))
 win_told back Black i =
     let black = slice_index back.black i in
-    of_pairs (λ (v : Value). class_of v Black ≡ Good → is_win black ≡ true)
+    holds_of_pair_value (λ (v : Value). class_of v Black ≡ Good → is_win black ≡ true)
     (slice_index back.white i) black (λ w good. absurd (cc)) (λ win good. win)
     (λ w b good. absurd (cc)) (λ w good. absurd (cc)) (λ b good. absurd (cc))
     (λ good. absurd (cc))

@@ -11,16 +11,16 @@ use Rattle.frz_index.proofs.Lemmas.{Num_below, member_of, number_missing, number
 use Rattle.frz_chain.specs.Books.{Back, back_value, or_else, told_at}
 
 -- what holds of the first value, and of the second where the first is unknown
-pub of_either : (P : Value → Type 0) (first second : Value) → P first → P second
+pub holds_of_either_value : (P : Value → Type 0) (first second : Value) → P first → P second
     → P (or_else first second)
-of_either P WhiteWins second h k = h
-of_either P BlackWins second h k = h
-of_either P Draw second h k = h
-of_either P WhiteHolds second h k = h
-of_either P BlackHolds second h k = h
-of_either P Unknown second h k = k
-of_either P (WhiteWinsIn n) second h k = h
-of_either P (BlackWinsIn n) second h k = h
+holds_of_either_value P WhiteWins second h k = h
+holds_of_either_value P BlackWins second h k = h
+holds_of_either_value P Draw second h k = h
+holds_of_either_value P WhiteHolds second h k = h
+holds_of_either_value P BlackHolds second h k = h
+holds_of_either_value P Unknown second h k = k
+holds_of_either_value P (WhiteWinsIn n) second h k = h
+holds_of_either_value P (BlackWinsIn n) second h k = h
 
 -- the number of a position is below the size
 pub number_below : (groups : List GroupLine) (q : Board) (i : ℕ) → Some i ≡ number_of groups q

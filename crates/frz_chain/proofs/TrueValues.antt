@@ -21,8 +21,8 @@ use Rattle.frz_game.specs.Values.{AreTrueExits, IsTrueValue}
 use Rattle.frz_game.proofs.Lemmas.{bound_means, stored_bound}
 use Rattle.frz_chain.specs.Books.{Back, back_value, chain_value, told_at}
 use Rattle.frz_chain.specs.FileOn.{IsExactBack}
-use Rattle.frz_chain.proofs.Pairs.{of_pairs}
-use Rattle.frz_chain.proofs.Told.{holds_of_back_value, of_either}
+use Rattle.frz_chain.proofs.Pairs.{holds_of_pair_value}
+use Rattle.frz_chain.proofs.Told.{holds_of_back_value, holds_of_either_value}
 
 -- a bound whose code is a win is a win
 win_is : (b : Bound) (code : ℕ) → code ≡ code_of b → is_win code ≡ true → (n : ℕ) × (b ≡ Wins n)
@@ -52,14 +52,14 @@ module _ (rules : RuleLines) (value : Board → Value) (exits : AreTrueExits rul
 -- what the table tells of a position of its set, or of another
 module _ (rules : RuleLines) (value : Board → Value) (back : Back)
     (exact : IsExactBack rules value back) (exits : AreTrueExits rules value) (q : Board) where
-  in_set : Member rules.groups q → IsTrueValue (told_at back (Some (Num rules.groups q))) q
-  in_set member =
+  true_in_set : Member rules.groups q → IsTrueValue (told_at back (Some (Num rules.groups q))) q
+  true_in_set member =
       let i : ℕ = Num rules.groups q in
       let white = stored_bound rules value White back.white exact.white q member in
       let black = stored_bound rules value Black back.black exact.black q member in
       let white_means = bound_means rules value White q white.0 member white.2 in
       let black_means = bound_means rules value Black q black.0 member black.2 in
-      of_pairs (λ (v : Value). IsTrueValue v q) (slice_index back.white i)
+      holds_of_pair_value (λ (v : Value). IsTrueValue v q) (slice_index back.white i)
       (slice_index back.black i)
       (λ win. wins_true rules value exits q White white.0 (slice_index back.white i) white_means
       white.1 win)
@@ -78,14 +78,15 @@ module _ (rules : RuleLines) (value : Board → Value) (back : Back)
       tt
 
   pub back_true : IsTrueValue (back_value back q) q
-  back_true = holds_of_back_value rules back exact.set q (λ (v : Value). IsTrueValue v q) tt in_set
+  back_true = holds_of_back_value rules back exact.set q (λ (v : Value). IsTrueValue v q) tt
+      true_in_set
 
 pub chained_true : (rules backs : RuleLines) (value : Board → Value) (back : Back)
     → IsExactBack backs value back
     → AreTrueExits rules (value_by rules) → AreTrueExits backs value
     → AreTrueExits rules (chain_value rules back)
 chained_true rules backs value back exact own others p m member legal outside =
-    of_either (λ (v : Value). IsTrueValue v (after p m)) (value_by rules (after p m))
+    holds_of_either_value (λ (v : Value). IsTrueValue v (after p m)) (value_by rules (after p m))
     (back_value back (after p m))
     (own p m member legal outside)
     (back_true backs value back exact others (after p m))

@@ -8,9 +8,9 @@ use Rattle.frz_sets.specs.Views.{RuleLines}
 use Rattle.frz_ways.specs.ChessGames.{IsGame, IsPlyFrom, after_plies}
 use Rattle.frz_ways.specs.Ways.{WayPly}
 
-not_empty : (front : List WayPly) (x : WayPly) → front ++ x ∷ [] ≡ [] → ⊥
-not_empty [] x e = cc
-not_empty (y ∷ front) x e = cc
+one_behind_not_empty : (front : List WayPly) (x : WayPly) → front ++ x ∷ [] ≡ [] → ⊥
+one_behind_not_empty [] x e = cc
+one_behind_not_empty (y ∷ front) x e = cc
 
 pub after_last_ply : (front : List WayPly) (p : Board) (x : WayPly)
     → after_plies p (front ++ x ∷ []) ≡ after (after_plies p front) x.arm.mv
@@ -30,7 +30,7 @@ module _ (rules : RuleLines) (side : Colour) where
       → plies ≡ front ++ x ∷ [] → MatchOption o (plies ≡ []) (λ p. IsGame rules side p plies)
       → (p : Board) × (o ≡ Some p) × IsPlyFrom rules side (after_plies p front) x
   last_ply None plies front x whole none =
-      absurd (not_empty front x (let e : front ++ x ∷ [] ≡ [] = cc in e))
+      absurd (one_behind_not_empty front x (let e : front ++ x ∷ [] ≡ [] = cc in e))
   last_ply (Some p) plies front x whole game = (
     p,
     refl,

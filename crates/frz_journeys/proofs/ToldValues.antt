@@ -20,7 +20,7 @@ use Rattle.frz_index.specs.Membership.{is_member, number_of}
 use Rattle.frz_index.proofs.Lemmas.{number_missing, number_there}
 use Rattle.frz_chain.specs.Books.{or_else, told_at}
 use Rattle.frz_chain.specs.ChainPlies.{back_codes}
-use Rattle.frz_chain.proofs.Lemmas.{of_pairs, win_told}
+use Rattle.frz_chain.proofs.Lemmas.{holds_of_pair_value, win_told}
 use Rattle.frz_backs.specs.Links.{Link, backs_of, value_over}
 use Rattle.frz_backs.specs.Values.{first_value, told_or}
 use Rattle.frz_backs.proofs.Lemmas.{front_tells, none_tell}
@@ -164,11 +164,11 @@ pub safe_holds : (side : Colour) (table : Link) (i : ℕ)
     → class_of (told_at table.back (Some i)) side ≡ Safe → slice_index (codes_of side table) i ≡ 1
 safe_holds White table i =
     let white = slice_index table.back.white i in
-    of_pairs (λ (v : Value). class_of v White ≡ Safe → white ≡ 1) white
+    holds_of_pair_value (λ (v : Value). class_of v White ≡ Safe → white ≡ 1) white
     (slice_index table.back.black i) (λ w safe. absurd (cc)) (λ w safe. absurd (cc))
     (λ w b safe. w) (λ w safe. w) (λ b safe. absurd (cc)) (λ safe. absurd (cc))
 safe_holds Black table i =
     let black = slice_index table.back.black i in
-    of_pairs (λ (v : Value). class_of v Black ≡ Safe → black ≡ 1)
+    holds_of_pair_value (λ (v : Value). class_of v Black ≡ Safe → black ≡ 1)
     (slice_index table.back.white i) black (λ w safe. absurd (cc)) (λ w safe. absurd (cc))
     (λ w b safe. b) (λ w safe. absurd (cc)) (λ b safe. b) (λ safe. absurd (cc))

@@ -123,10 +123,10 @@ module _ (link : Link) (value : Board → Value)
     (exits : AreTrueExits link.rules value)
     (counted : (side : Colour) → counts_wins link side ≡ true →
     AllNumbered (game_of link.rules value) side) (q : Board) where
-  in_set : Member link.rules.groups q → (v : Value) →
+  told_value_is_true : Member link.rules.groups q → (v : Value) →
       codes_say link (slice_index link.back.white (Num link.rules.groups q))
       (slice_index link.back.black (Num link.rules.groups q)) v ≡ true → IsTrueValue v q
-  in_set member =
+  told_value_is_true member =
       let i : ℕ = Num link.rules.groups q in
       let w : ℕ = slice_index link.back.white i in
       let b : ℕ = slice_index link.back.black i in
@@ -168,7 +168,7 @@ module _ (link : Link) (value : Board → Value)
       by_member : (inside : Bool) → is_member link.rules.groups q ≡ inside → IsTrueValue v q
       by_member true e =
           let member = member_of link.rules.groups q e in
-          in_set member v
+          told_value_is_true member v
           (sym (ap (says_at v link) (number_inside link.rules link.back exact.set q member)) ∙ h)
       by_member false e =
           absurd (let none = sym (ap (says_at v link)

@@ -437,7 +437,8 @@ many_bases rules links =
     length-map (enumerate_from 0 rules.exits) f ∙ length-enumerate_from 0 rules.exits
 
 -- the value of a result, weakened
-pub if_ok : {T E : Type 0} (P Q : T → Type 0) (r : Result T E) → ((x : T) → P x → Q x) →
+pub weaker_holds_if_ok : {T E : Type 0} (P Q : T → Type 0) (r : Result T E)
+    → ((x : T) → P x → Q x) →
     IfOk r P → IfOk r Q
-if_ok P Q (Ok x) f h = f x h
-if_ok P Q (Err e) f h = tt
+weaker_holds_if_ok P Q (Ok x) f h = f x h
+weaker_holds_if_ok P Q (Err e) f h = tt

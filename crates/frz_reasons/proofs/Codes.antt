@@ -27,8 +27,8 @@ both_true_of_and false b e = absurd (cc)
 pub and_true_of_both : (a b : Bool) → a ≡ true → b ≡ true → (a && b) ≡ true
 and_true_of_both a b e f = rw (e, f) refl
 
-pub not_false : (a : Bool) → a ≡ false → not a ≡ true
-not_false a e = rw e refl
+pub not_of_false_is_true : (a : Bool) → a ≡ false → not a ≡ true
+not_of_false_is_true a e = rw e refl
 
 pub not_true_is_false : (a : Bool) → not a ≡ true → a ≡ false
 not_true_is_false true e = absurd (cc)

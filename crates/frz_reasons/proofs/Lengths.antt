@@ -79,9 +79,10 @@ module _ (arena : Arena Step ℕ Value) (side : Colour) (codes : List ℕ) where
     ends_renounced number n none (tell.waits m a i f less each) =
         absurd (sides_differ side (let e = sym n ∙ m in cc))
 
-    on_by : (number n : ℕ) (a : Arm Step ℕ Value) → slice_index codes number ≡ 3 + 2 * n
+    plays_on_from_failure : (number n : ℕ) (a : Arm Step ℕ Value)
+        → slice_index codes number ≡ 3 + 2 * n
         → IsPlayedAt arena side codes number a → PlaysOn arena side codes number a
-    on_by number n a code p =
+    plays_on_from_failure number n a code p =
         plays_on arena side codes number
         (tells number (subst (λ k. is_failure k ≡ true) (sym code) (failing_code n)) p.agrees) a p
 
@@ -100,16 +101,16 @@ module _ (arena : Arena Step ℕ Value) (side : Colour) (codes : List ℕ) where
         (tells i (subst (λ k. is_failure k ≡ true) (sym code) (failing_code n)) c) in
         (omega arith, λ right. omega (arith, code, three))
     failure_bounds_plies i n xs e code (leaves a v p out) =
-        let on = on_by i n a code p in
+        let on = plays_on_from_failure i n a code p in
         let five = (leaves_bad i a v on out).1 in
         (omega (arith, code, five), λ right. omega (arith, code, five))
     failure_bounds_plies i zero xs e code (goes_on a q p into rest) =
-        absurd (let on = on_by i zero a code p in
+        absurd (let on = plays_on_from_failure i zero a code p in
         let less = next_failure_is_shorter i q a on into in
         let l = failure_least (slice_index codes q) less.1 in
         let k = less.0 in omega (arith, code, l, k))
     failure_bounds_plies i (suc n) xs e code (goes_on {arms = others} a q p into rest) =
-        let on = on_by i (suc n) a code p in
+        let on = plays_on_from_failure i (suc n) a code p in
         let less = (next_failure_is_shorter i q a on into).0 in
         let go = failure_bounds_plies q n others e (omega (arith, code, less)) rest in
         let short = go.0 in

@@ -172,19 +172,19 @@ module _ (arena : Arena Step ℕ Value) (side : Colour) (codes : List ℕ) (numb
               ]
         ]
 
-    at_mate : (mover : Colour) → arena.node number ≡ Mate mover →
+    code_at_mate : (mover : Colour) → arena.node number ≡ Mate mover →
         given ≡ (if same_colour mover side then 3 else 2)
-    at_mate mover e = rw e refl
+    code_at_mate mover e = rw e refl
 
     fails_at_mate : (mover : Colour) → arena.node number ≡ Mate mover
         → FailsAt arena side codes number
     fails_at_mate mover e =
         elim (mover_is_either_side side mover) [
-          | inl m ↦ mated (e ∙ ap Mate m) (agrees ∙ at_mate mover e
+          | inl m ↦ mated (e ∙ ap Mate m) (agrees ∙ code_at_mate mover e
               ∙ ap (λ (b : Bool). if b then 3 else 2)
               (ap (λ c. same_colour c side) m ∙ same_side side))
           | inr m ↦ absurd (
-              let two : given ≡ 2 = at_mate mover e
+              let two : given ≡ 2 = code_at_mate mover e
               ∙ ap (λ (b : Bool). if b then 3 else 2)
               (ap (λ c. same_colour c side) m ∙ other_side side) in
               win_itself_no_failure given (subst (λ c. is_win c ≡ true) (sym two) refl)

@@ -100,9 +100,9 @@ module _ (arena : Arena Step ℕ Value) (side : Colour) (codes : List ℕ) where
       let m : a.mv ≡ b.mv = ap (λ (x : Arm Step ℕ Value). x.mv) e in
       cc
 
-  in_and_out : (a b : Arm Step ℕ Value) (q : ℕ) (v : Value) → a ≡ b → a.next ≡ Inside q →
+  never_in_and_out : (a b : Arm Step ℕ Value) (q : ℕ) (v : Value) → a ≡ b → a.next ≡ Inside q →
       b.next ≡ Outside v → ⊥
-  in_and_out a b q v e f g =
+  never_in_and_out a b q v e f g =
       let h : Inside q ≡ Outside v = sym f ∙ (ap (λ (x : Arm Step ℕ Value). x.next) e ∙ g) in cc
 
   same_place : (a b : Arm Step ℕ Value) (q r : ℕ) → a ≡ b → a.next ≡ Inside q →
@@ -138,13 +138,13 @@ module _ (arena : Arena Step ℕ Value) (side : Colour) (codes : List ℕ) where
       let same = one_played arena side codes i a b p q in
       (ap (λ (x : Arm Step ℕ Value). x ∷ []) same, same_value i a b v w same out left)
   one_way i xs ys e f (leaves a v p out) (goes_on b r q on rest) =
-      absurd (in_and_out b a r v (one_played arena side codes i b a q p) on out)
+      absurd (never_in_and_out b a r v (one_played arena side codes i b a q p) on out)
   one_way i xs ys e f (goes_on a k p on rest) (wrong d) = absurd (d p.agrees)
   one_way i xs ys e f (goes_on a k p on rest) (mated c n) = absurd (mated_stays i a n p)
   one_way i xs ys e f (goes_on a k p on rest) (renounced c n none) =
       absurd (renounced_stays i a n none p)
   one_way i xs ys e f (goes_on a k p on rest) (leaves b w q out) =
-      absurd (in_and_out a b k w (one_played arena side codes i a b p q) on out)
+      absurd (never_in_and_out a b k w (one_played arena side codes i a b p q) on out)
   one_way i xs ys e f (goes_on {arms = more} a k p on rest) (goes_on {arms = others} b r q gone left) =
       let same = one_played arena side codes i a b p q in
       let at = same_place a b k r same on gone in

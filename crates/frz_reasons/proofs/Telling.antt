@@ -52,8 +52,8 @@ module _ (arena : Arena Step ℕ Value) (side : Colour) (codes : List ℕ) (star
         → FailsFrom arena side codes number rest reason
         → FailsFrom arena side codes start (played ++ rest) reason
 
-  pub at_start : (out : SinkTold) → IsSoFar start out out
-  at_start out = record {
+  pub so_far_at_start : (out : SinkTold) → IsSoFar start out out
+  so_far_at_start out = record {
     played = [];
     took = took_nothing out;
     from = λ rest reason way. way;

@@ -40,8 +40,8 @@ below_more cell (c ∷ cells) =
 pub below_few : (cell : ℕ) (cells : List ℕ) → below cell cells ≤ length cells
 below_few cell cells = count_by-le-length (λ c. nat_lt c cell) cells
 
-pub at_front : (cell : ℕ) (cells : List ℕ) (i : ℕ) → at cell (take i cells) ≤ at cell cells
-at_front cell cells i = sum_by-take-le (λ (x : ℕ). cond (x == cell) 1 0) cells i
+pub front_has_no_more : (cell : ℕ) (cells : List ℕ) (i : ℕ) → at cell (take i cells) ≤ at cell cells
+front_has_no_more cell cells i = sum_by-take-le (λ (x : ℕ). cond (x == cell) 1 0) cells i
 
 -- one cell more
 pub one_cell_more : (cell : ℕ) (cells : List ℕ) (i : ℕ) → i < length cells

@@ -103,9 +103,11 @@ module _ (f g : Class → ℕ) (x : Class) (more : (c : Class) → g c ≡ f c +
           ∙ ap (λ (l : List (Class × ℕ)). (c, g c) ∷ l) (rest later)
 
 -- none of these is equal to it
-none_there : (x : Class) (ks : List Class) → list_any (bytes_eq x) ks ≡ false → Differs x ks
-none_there x [] h = tt
-none_there x (c ∷ ks) h = differs_from_all (bytes_eq x c) refl h (none_there x ks)
+none_found_all_differ : (x : Class) (ks : List Class) → list_any (bytes_eq x) ks ≡ false
+    → Differs x ks
+none_found_all_differ x [] h = tt
+none_found_all_differ x (c ∷ ks) h = differs_from_all (bytes_eq x c) refl h
+    (none_found_all_differ x ks)
   where
     differs_from_all : (b : Bool) → bytes_eq x c ≡ b → (b || list_any (bytes_eq x) ks) ≡ false
         → (list_any (bytes_eq x) ks ≡ false → Differs x ks) → Differs x (c ∷ ks)
@@ -132,7 +134,7 @@ census_more cs x = census_met_or_not (list_any (bytes_eq x) cs) refl
         let last : firsts (cs ++ x ∷ []) ≡ firsts cs ++ x ∷ [] = firsts_more cs x
         ∙ ap (λ (b : Bool). cond b (firsts cs) (firsts cs ++ x ∷ [])) e in
         new_entry (times cs) (times (cs ++ x ∷ [])) x counted_once_more (firsts cs)
-        (none_there x (firsts cs) (any_firsts x cs ∙ e))
+        (none_found_all_differ x (firsts cs) (any_firsts x cs ∙ e))
         ∙ sym (ap (tally (times (cs ++ x ∷ []))) last)
 
 -- keys are equal where their letters are

@@ -22,14 +22,15 @@ use Rattle.frz_report.specs.Walks.{Counts, WritesSome, line_of, one_of}
 use Rattle.frz_report.proofs.Walking.{exits_more, exits_there, few_classes, front_nothing, no_exits_there, no_squeeze_there, squeeze_there}
 
 -- what holds of a fault holds of the result that passes it on
-pub as_fault : {T : Type 0} (P : Result T ReportFault → Type 0) (fault : ReportFault)
+pub holds_of_known_fault : {T : Type 0} (P : Result T ReportFault → Type 0) (fault : ReportFault)
     (result : Result T ReportFault) → IsErrAnd result (λ e. e ≡ fault) → P (Err fault) → P result
-as_fault P fault (Ok x) h p = absurd h
-as_fault P fault (Err e) h p = subst (λ (f : ReportFault). P (Err f)) (sym h) p
+holds_of_known_fault P fault (Ok x) h p = absurd h
+holds_of_known_fault P fault (Err e) h p = subst (λ (f : ReportFault). P (Err f)) (sym h) p
 
-pub on_ok : {T E : Type 0} (P Q : Type 0) (r : Result T E) → (P → Q) → OnOk r P → OnOk r Q
-on_ok P Q (Ok x) f h = f h
-on_ok P Q (Err e) f h = tt
+pub weaker_holds_on_ok : {T E : Type 0} (P Q : Type 0) (r : Result T E) → (P → Q) → OnOk r P
+    → OnOk r Q
+weaker_holds_on_ok P Q (Ok x) f h = f h
+weaker_holds_on_ok P Q (Err e) f h = tt
 
 -- the position of a number, by a set of the rules' groups
 pub position_here : (set groups : List GroupLine) (i : ℕ) (o : Option Board) → set ≡ groups

@@ -17,14 +17,15 @@ unfolding is_member
 valid_part gs p h =
     (and_parts (is_valid p) (are_men_covered gs p && list_all (is_counted p) gs) h).0
 
-ok_part : (p : Board) → is_valid p ≡ true → is_ok (validity_of p) ≡ true
+valid_is_ok : (p : Board) → is_valid p ≡ true → is_ok (validity_of p) ≡ true
 unfolding is_valid
-ok_part p h = (and_parts (are_cells p.cells) (is_ok (validity_of p)) h).1
+valid_is_ok p h = (and_parts (are_cells p.cells) (is_ok (validity_of p)) h).1
 
 not_inside : (gs : List GroupLine) (q : Board) (why : Invalid) → Err why ≡ validity_of q
     → Member gs q → ⊥
 not_inside gs q why is member =
-    let ok : is_ok (validity_of q) ≡ true = ok_part q (valid_part gs q (of_member gs q member)) in
+    let ok : is_ok (validity_of q) ≡ true = valid_is_ok q
+    (valid_part gs q (of_member gs q member)) in
     let no : false ≡ true = ap is_ok is ∙ ok in cc
 
 -- a position that is not valid has none

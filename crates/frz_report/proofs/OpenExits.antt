@@ -32,15 +32,15 @@ both_empty : {X : Type 0} (xs ys : List X) → (xs ++ ys) ≡ [] → (xs ≡ [])
 both_empty [] ys h = (refl, h)
 both_empty (x ∷ xs) ys h = absurd (cc)
 
-none_kept : {X : Type 0} (test : X → Bool) (xs : List X) (x : X) → filter test xs ≡ [] →
+filtered_none_passes : {X : Type 0} (test : X → Bool) (xs : List X) (x : X) → filter test xs ≡ [] →
     Contains xs x → test x ≡ true → ⊥
-none_kept test [] x h i t = none_in_empty x i
-none_kept test (y ∷ xs) x h i t =
+filtered_none_passes test [] x h i t = none_in_empty x i
+filtered_none_passes test (y ∷ xs) x h i t =
     elim (cases_Bool (test y)) [
       | inl kept ↦ (let e = rw kept at h in cc)
       | inr gone ↦ (let e = rw gone at h in elim (in_cases y xs x i) [
         | inl same ↦ (let b = ap test same in cc)
-        | inr j ↦ none_kept test xs x e j t
+        | inr j ↦ filtered_none_passes test xs x e j t
       ])
     ]
 
@@ -109,7 +109,7 @@ module _ (rules : RuleLines) (value : Board → Value) (none : exits_of rules va
       let below = Num_below rules.groups p (member_of rules.groups p member) in
       let e : classes_after p arms ≡ [] = sym (ap (classes_on arms) at_p)
       ∙ empty_at (Num rules.groups p) below in
-      none_kept (λ (b : Arm Step ℕ Value). is_open b.next) arms a
+      filtered_none_passes (λ (b : Arm Step ℕ Value). is_open b.next) arms a
       (map_empty (λ (b : Arm Step ℕ Value). class_of (after p b.mv))
       (filter (λ (b : Arm Step ℕ Value). is_open b.next) arms) e) i o
 
@@ -128,10 +128,10 @@ module _ (rules : RuleLines) (value : Board → Value) (none : exits_of rules va
       (subst (λ (z : Board). is_member rules.groups z ≡ false) (sym x.ends) x.outside)
       (ap value x.ends ∙ unknown))
 
-no_length : {X : Type 0} (xs : List X) → length xs ≡ 0 → xs ≡ []
-no_length [] h = refl
-no_length (x ∷ xs) h = absurd (omega arith)
+zero_length_is_empty : {X : Type 0} (xs : List X) → length xs ≡ 0 → xs ≡ []
+zero_length_is_empty [] h = refl
+zero_length_is_empty (x ∷ xs) h = absurd (omega arith)
 
 pub none_counted : (rules : RuleLines) (value : Board → Value) →
     length (exits_of rules value) ≡ 0 → HasNoOpenExit rules value
-none_counted rules value h = none_open rules value (no_length (exits_of rules value) h)
+none_counted rules value h = none_open rules value (zero_length_is_empty (exits_of rules value) h)

@@ -112,10 +112,10 @@ module _ {S R : Type 0} (rules : RuleLines) (value : Board → Value) (side : Co
       let own = keeps.there in
       cc
 
-  mv_made : (p : Board) (x : LinePly) (m : Step)
+  made_arm_has_move : (p : Board) (x : LinePly) (m : Step)
       → x.arm ≡ named (later (suc x.from.0)) (arm_at rules value p m) → x.arm.mv ≡ m
   unfolding arm_at
-  mv_made p x m e = ap (λ (a : Arm Step (ℕ × ℕ) Value). a.mv) e
+  made_arm_has_move p x m e = ap (λ (a : Arm Step (ℕ × ℕ) Value). a.mv) e
 
   next_made : (p : Board) (x : LinePly) (m : Step) (to : ℕ × ℕ)
       → x.arm ≡ named (later (suc x.from.0)) (arm_at rules value p m) → x.arm.next ≡ Inside to
@@ -138,7 +138,7 @@ module _ {S R : Type 0} (rules : RuleLines) (value : Board → Value) (side : Co
       → IsPlyFrom rules side p x
   ply_from p x here made =
       let there = move_made p x here made in
-      let mv = mv_made p x made.move (arm_made p x made.move here there.1 made.keeps) in
+      let mv = made_arm_has_move p x made.move (arm_made p x made.move here there.1 made.keeps) in
       let turn = mover_of (is_member rules.groups p) (legal_moves_of p) (is_in_check p p.turn)
       p.turn x.mover (sym (ap (node_at (arena_by rules value)) here) ∙ made.keeps.goes_on) in
       record {
@@ -160,7 +160,7 @@ module _ {S R : Type 0} (rules : RuleLines) (value : Board → Value) (side : Co
       let there = move_made p x here made in
       let arm = arm_made p x made.move here there.1 made.keeps in
       next_made p x made.move to arm leads
-      ∙ ap (λ m. Some (after p m)) (sym (mv_made p x made.move arm))
+      ∙ ap (λ m. Some (after p m)) (sym (made_arm_has_move p x made.move arm))
 
   outside_made : (p : Board) (x : LinePly) (m : Step) (v : Value)
       → x.arm ≡ named (later (suc x.from.0)) (arm_at rules value p m) → x.arm.next ≡ Outside v
@@ -176,7 +176,7 @@ module _ {S R : Type 0} (rules : RuleLines) (value : Board → Value) (side : Co
       let there = move_made p x here made in
       let arm = arm_made p x made.move here there.1 made.keeps in
       outside_made p x made.move v arm leads
-      ∙ ap (λ m. value (after p m)) (sym (mv_made p x made.move arm))
+      ∙ ap (λ m. value (after p m)) (sym (made_arm_has_move p x made.move arm))
 
   -- where the last of these plies leads outside
   exit_on : (plies : List LinePly) (p : Board) (v : Value)

@@ -29,8 +29,8 @@ line_length_adds_up bytes rest one =
 pub empty_is_one_line : IsOneLine []
 empty_is_one_line = refl
 
-not_feed : (byte : ℕ) → (byte ≡ 10 → ⊥) → is_line_feed byte ≡ false
-not_feed byte h = grind (arith, nat_tests)
+other_byte_no_feed : (byte : ℕ) → (byte ≡ 10 → ⊥) → is_line_feed byte ≡ false
+other_byte_no_feed byte h = grind (arith, nat_tests)
 
 one_byte : (byte : ℕ) → is_line_feed byte ≡ false → line_length (byte ∷ []) ≡ 1
 one_byte byte h = rw h refl
@@ -40,7 +40,7 @@ pub one_byte_more : (bytes : List ℕ) (byte : ℕ) → IsOneLine bytes → (byt
     → IsOneLine (bytes ++ byte ∷ [])
 one_byte_more bytes byte one h =
     line_length_adds_up bytes (byte ∷ []) one
-    ∙ (ap (λ n. length bytes + n) (one_byte byte (not_feed byte h))
+    ∙ (ap (λ n. length bytes + n) (one_byte byte (other_byte_no_feed byte h))
     ∙ sym (length-append bytes (byte ∷ [])))
 
 short_line : (n : ℕ) → n ≤ MOST_LENGTH → nat_lt MOST_LENGTH n ≡ false
@@ -81,9 +81,9 @@ reads_line arms more line tail one none few some =
     ∙ ap (λ (l : List ℕ). reply_or (place_said arms line) (record { left = l; more = more })
     (reads arms more l)) behind)
 
-not_empty : (bytes rest : List ℕ) → 0 < length bytes → bytes ++ rest ≢ []
-not_empty [] rest l = absurd (omega arith)
-not_empty (b ∷ bytes) rest l = λ e. absurd (cc)
+bytes_before_not_empty : (bytes rest : List ℕ) → 0 < length bytes → bytes ++ rest ≢ []
+bytes_before_not_empty [] rest l = absurd (omega arith)
+bytes_before_not_empty (b ∷ bytes) rest l = λ e. absurd (cc)
 
 -- one byte too many
 pub reads_too_long : (arms : List (Arm Step ℕ Value)) (more : ℕ) (bytes rest : List ℕ)
@@ -95,7 +95,8 @@ reads_too_long arms more bytes rest one many =
     (let l = line_length_adds_up bytes rest one in omega (arith, l, many)) in
     let behind : drop (MOST_LENGTH + 1) (bytes ++ rest) ≡ rest = ap (λ n. drop n (bytes ++ rest))
     (sym many ∙ omega arith) ∙ drop-append-add bytes rest 0 in
-    reads_long arms more (bytes ++ rest) (not_empty bytes rest (omega (arith, many))) long
+    reads_long arms more (bytes ++ rest) (bytes_before_not_empty bytes rest (omega (arith, many)))
+    long
     ∙ ap (λ (l : List ℕ). Stop (halted (Limit LineLength)) (record { left = l; more = suc more }))
     behind
 

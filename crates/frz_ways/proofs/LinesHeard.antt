@@ -29,11 +29,12 @@ use Rattle.frz_ways.specs.SessionTexts.{refused_text}
 use Rattle.frz_ways.proofs.InputLines.{reads_line, reads_too_long, reads_behind, reads_front, refuse_inside, refuse_reply, refuse_stop}
 use Rattle.frz_ways.proofs.Taking.{took_none, took_on}
 
-at_end : (arms : List (Arm Step ℕ Value)) (more : ℕ) (rest : List ℕ) → 0 < more → rest ≡ []
+reads_end_of_input : (arms : List (Arm Step ℕ Value)) (more : ℕ) (rest : List ℕ) → 0 < more
+    → rest ≡ []
     → reads arms more rest ≡ Stop (halted Ended) (record { left = rest; more = more })
-at_end arms zero rest l e = absurd (omega arith)
-at_end arms (suc more) [] l e = refl
-at_end arms (suc more) (b ∷ rest) l e = absurd (cc)
+reads_end_of_input arms zero rest l e = absurd (omega arith)
+reads_end_of_input arms (suc more) [] l e = refl
+reads_end_of_input arms (suc more) (b ∷ rest) l e = absurd (cc)
 
 -- the end was seen before, or now
 input_is_over : (old new : Reader) → 0 < old.more → new.more ≡ old.more → new.ended ≡ true
@@ -47,7 +48,7 @@ input_is_over old new some same ended line source left took has = record {
   fewer = same;
   heard = λ arms rest may. subst
       (λ n. reads arms old.more rest ≡ Stop (halted Ended) (record { left = rest; more = n }))
-      (sym same) (at_end arms old.more rest some (may ended));
+      (sym same) (reads_end_of_input arms old.more rest some (may ended));
 }
 
 pub end_seen_before : (old : Reader) (line : List ℕ) (source : SourceTold) → 0 < old.more

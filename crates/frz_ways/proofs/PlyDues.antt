@@ -25,13 +25,13 @@ by_if : (b : Bool) (x y : Due) (m : Colour) → (if b then x else y) ≡ dues.Pl
 by_if true x y m h = inl (refl, h)
 by_if false x y m h = inr (refl, h)
 
-on_ply : (is_late : Bool) (kept : ℕ) (node : Node) (m : Colour)
+ply_due_where_going : (is_late : Bool) (kept : ℕ) (node : Node) (m : Colour)
     → due_on is_late kept node ≡ dues.Ply m → (node ≡ nodes.Going m)
     × (((kept == 1) && is_late) ≡ false)
-on_ply is_late kept nodes.Broken m h = absurd (cc)
-on_ply is_late kept (nodes.Mate c) m h = absurd (cc)
-on_ply is_late kept (nodes.Stalemate c) m h = absurd (cc)
-on_ply is_late kept (nodes.Going c) m h =
+ply_due_where_going is_late kept nodes.Broken m h = absurd (cc)
+ply_due_where_going is_late kept (nodes.Mate c) m h = absurd (cc)
+ply_due_where_going is_late kept (nodes.Stalemate c) m h = absurd (cc)
+ply_due_where_going is_late kept (nodes.Going c) m h =
     elim (by_if ((kept == 1) && is_late) dues.Cut (dues.Ply c) m h) [
       | inl r ↦ absurd (let e = r.1 in cc)
       | inr r ↦ ((let e = r.1 in let same : c ≡ m = cc in ap nodes.Going same), r.0)
@@ -56,7 +56,7 @@ ply_due is_start is_late kept given node m h =
       | inl r ↦ (
           elim (by_if (is_start && is_failure kept) dues.NoBound (due_on is_late kept node) m r.1) [
             | inl q ↦ absurd (let e = q.1 in cc)
-            | inr q ↦ (let on = on_ply is_late kept node m q.1 in
+            | inr q ↦ (let on = ply_due_where_going is_late kept node m q.1 in
                 record {
                   agrees = eqb-true kept given r.0;
                   starts = q.0;

@@ -55,11 +55,11 @@ either_is_result : (b : Bool) (x y z : Due) → (if b then x else y) ≡ z → (
 either_is_result true x y z h = inl h
 either_is_result false x y z h = inr h
 
-on_cut : (code : ℕ) (node : Node) → due_on false code node ≡ dues.Cut → ⊥
-on_cut code nodes.Broken h = absurd (cc)
-on_cut code (nodes.Mate m) h = absurd (cc)
-on_cut code (nodes.Stalemate m) h = absurd (cc)
-on_cut code (nodes.Going m) h =
+cut_only_when_late : (code : ℕ) (node : Node) → due_on false code node ≡ dues.Cut → ⊥
+cut_only_when_late code nodes.Broken h = absurd (cc)
+cut_only_when_late code (nodes.Mate m) h = absurd (cc)
+cut_only_when_late code (nodes.Stalemate m) h = absurd (cc)
+cut_only_when_late code (nodes.Going m) h =
     let e : (if false then dues.Cut else dues.Ply m) ≡ dues.Cut = subst
     (λ b. (if b then dues.Cut else dues.Ply m) ≡ dues.Cut) (and_right (code == 1) false refl) h in
     absurd (cc)
@@ -73,7 +73,7 @@ never_cut is_start code given node due e cut =
     (dues.Wrong given) dues.Cut (sym e ∙ cut)) [
       | inl h ↦ elim (either_is_result (is_start && is_failure code) dues.NoBound
       (due_on false code node)
-          dues.Cut h) [ inl n ↦ absurd (cc) | inr d ↦ on_cut code node d ]
+          dues.Cut h) [ inl n ↦ absurd (cc) | inr d ↦ cut_only_when_late code node d ]
       | inr h ↦ absurd (cc)
     ]
 
@@ -86,9 +86,9 @@ own_most side (nodes.Going m) =
     [ inl t ↦ rw t (omega arith) | inr f ↦ rw f (omega arith) ]
 
 -- where the input says a ply, it is not the side's own
-not_own : (o : Opponent) (own : Bool) → by_codes o own ≡ false → own ≡ false
-not_own opponents.Codes own e = absurd (cc)
-not_own opponents.Input own e = e
+input_is_not_own : (o : Opponent) (own : Bool) → by_codes o own ≡ false → own ≡ false
+input_is_not_own opponents.Codes own e = absurd (cc)
+input_is_not_own opponents.Input own e = e
 
 -- only a line is cut
 cut_line : (opponent : Opponent) (is_start : Bool) (played code given : ℕ) (node : Node)
@@ -126,11 +126,11 @@ module _ {arena : Arena Step ℕ Value} {size : ℕ} (finite : IsFinite arena si
       are (placed_is_contained arms place a there) in
       (finite.inside cursor.number n a among leads).0
 
-  no_failure : (code next : ℕ) → IsNextCode code next → is_failure next ≡ false
-  no_failure code next (inl h) =
+  next_code_no_failure : (code next : ℕ) → IsNextCode code next → is_failure next ≡ false
+  next_code_no_failure code next (inl h) =
       elim (cases_Bool (is_failure next))
       [ inl f ↦ absurd (win_and_failure next h.1 f) | inr f ↦ f ]
-  no_failure code next (inr h) = (let l = h.1 in grind (arith, nat_tests))
+  next_code_no_failure code next (inr h) = (let l = h.1 in grind (arith, nat_tests))
 
   -- the code behind a ply that the codes find
   next_code : (m : Colour) → IsDue (dues.Ply m) → (place : ℕ) (x : Choice)
@@ -150,7 +150,7 @@ module _ {arena : Arena Step ℕ Value} {size : ℕ} (finite : IsFinite arena si
       slice_get arms place ≡ Some a
       → is_failure (get_or cs place 0) ≡ false
   reply_code_stands m e found place a there =
-      let own = not_own opponent (same_colour m side) found in
+      let own = input_is_not_own opponent (same_colour m side) found in
       let d = ply_is_due m e in
       let within = slice_get_within arms place a there in
       let other : node_code side (nodes.Going m) (free_among arms cs) cs ≡ other_code cs =
@@ -223,23 +223,24 @@ module _ {arena : Arena Step ℕ Value} {size : ℕ} (finite : IsFinite arena si
   less_by_reply opponents.Input own found old new less n code =
       left_reply old.more new.more less n
 
-  to_next : (old new : Reader) (move : Step) (next : Next ℕ Value) (code : ℕ)
+  turns_to_next : (old new : Reader) (move : Step) (next : Next ℕ Value) (code : ℕ)
       → ((n : ℕ) → next ≡ Inside n → (n < size) × (is_failure code ≡ false)
       × LeavesLess opponent arena side cursor old new n code)
       → TurnsTo arena size opponent side cursor old new (turn_of move next code)
-  to_next old new move (Inside n) code h = h n refl
-  to_next old new move (Outside v) code h = tt
+  turns_to_next old new move (Inside n) code h = h n refl
+  turns_to_next old new move (Outside v) code h = tt
 
-  if_answers : (P : Turn → Type 0) (turn : Turn) (text : List ℕ) (result : Result Turn PlayFault)
+  holds_if_answered : (P : Turn → Type 0) (turn : Turn) (text : List ℕ)
+      (result : Result Turn PlayFault)
       (out taken : SinkTold) → P turn → Answers turn text result out taken → IfOk result P
-  if_answers P turn text result out taken p (inl a) =
+  holds_if_answered P turn text result out taken p (inl a) =
       subst (λ (z : Result Turn PlayFault). IfOk z P) (sym a.0) p
-  if_answers P turn text result out taken p (inr a) =
+  holds_if_answered P turn text result out taken p (inr a) =
       subst (λ (z : Result Turn PlayFault). IfOk z P) (sym a.0) tt
 
-  if_failed : (P : Turn → Type 0) (fault : PlayFault) (result : Result Turn PlayFault)
+  holds_if_failed : (P : Turn → Type 0) (fault : PlayFault) (result : Result Turn PlayFault)
       → result ≡ Err fault → IfOk result P
-  if_failed P fault result e = subst (λ (z : Result Turn PlayFault). IfOk z P) (sym e) tt
+  holds_if_failed P fault result e = subst (λ (z : Result Turn PlayFault). IfOk z P) (sym e) tt
 
   after_next : (m : Colour) → IsDue (dues.Ply m) → by_codes opponent (same_colour m side) ≡ false
       → (old new : Reader) (heard_is : Result Heard PlayFault) (source left : SourceTold)
@@ -247,8 +248,8 @@ module _ {arena : Arena Step ℕ Value} {size : ℕ} (finite : IsFinite arena si
       → (result : Result Turn PlayFault) → AfterHeard arms cs heard_is result between taken
       → IfOk result (TurnsTo arena size opponent side cursor old new)
   after_next m e own old new (Ok (heard.Reply place)) source left out between taken hears result h =
-      if_answers (TurnsTo arena size opponent side cursor old new) (turn_of h.0.mv h.0.next
-      (get_or cs place 0)) _ result between taken (to_next old new h.0.mv h.0.next
+      holds_if_answered (TurnsTo arena size opponent side cursor old new) (turn_of h.0.mv h.0.next
+      (get_or cs place 0)) _ result between taken (turns_to_next old new h.0.mv h.0.next
       (get_or cs place 0)
       (λ n leads. (
         inside_size place h.0 h.1 n leads,
@@ -256,13 +257,14 @@ module _ {arena : Arena Step ℕ Value} {size : ℕ} (finite : IsFinite arena si
         less_by_reply opponent (same_colour m side) own old new hears.fewer n (get_or cs place 0),
       ))) h.2
   after_next m e own old new (Ok (heard.Stop Ended)) source left out between taken hears result h =
-      if_answers (TurnsTo arena size opponent side cursor old new) (Over ends.InputEnded) _ result
+      holds_if_answered (TurnsTo arena size opponent side cursor old new) (Over ends.InputEnded) _
+      result
       between taken tt h
   after_next m e own old new (Ok (heard.Stop (Limit limit))) source left out between taken hears
       result h =
-      if_failed (TurnsTo arena size opponent side cursor old new) _ result h.0
+      holds_if_failed (TurnsTo arena size opponent side cursor old new) _ result h.0
   after_next m e own old new (Err fault) source left out between taken hears result h =
-      if_failed (TurnsTo arena size opponent side cursor old new) fault result h.0
+      holds_if_failed (TurnsTo arena size opponent side cursor old new) fault result h.0
 
   ply_next : Alternates arena → (m : Colour) → IsDue (dues.Ply m) → (found : Bool)
       → by_codes opponent (same_colour m side) ≡ found → (old new : Reader)
@@ -276,11 +278,11 @@ module _ {arena : Arena Step ℕ Value} {size : ℕ} (finite : IsFinite arena si
       let there = plays.3.1 in
       let same : new.more ≡ old.more = ap (λ (r : Reader). r.more) h.0.0 in
       let next = next_code m e place plays.1 plays.2 in
-      if_answers (TurnsTo arena size opponent side cursor old new)
+      holds_if_answered (TurnsTo arena size opponent side cursor old new)
       (turn_of a.mv a.next (get_or cs place 0)) _ result out taken
-      (to_next old new a.mv a.next (get_or cs place 0) (λ n leads. (
+      (turns_to_next old new a.mv a.next (get_or cs place 0) (λ n leads. (
         inside_size place a there n leads,
-        no_failure cursor.code (get_or cs place 0) next,
+        next_code_no_failure cursor.code (get_or cs place 0) next,
         less_by_codes alternates opponent refl m e own old new same place a there next n leads,
       ))) plays.3.2
   ply_next alternates m e false own old new result source left out taken h =
@@ -300,17 +302,20 @@ module _ {arena : Arena Step ℕ Value} {size : ℕ} (finite : IsFinite arena si
       out taken
       → IfOk result (TurnsTo arena size opponent side cursor old new)
   turn_next alternates (dues.Wrong given) e old new result source left out taken h =
-      if_failed (TurnsTo arena size opponent side cursor old new) _ result h.1.0
+      holds_if_failed (TurnsTo arena size opponent side cursor old new) _ result h.1.0
   turn_next alternates dues.NoBound e old new result source left out taken h =
-      if_failed (TurnsTo arena size opponent side cursor old new) _ result h.1.0
+      holds_if_failed (TurnsTo arena size opponent side cursor old new) _ result h.1.0
   turn_next alternates (dues.Mate m) e old new result source left out taken h =
-      if_answers (TurnsTo arena size opponent side cursor old new) (Over ends.Mate) _ result out taken
+      holds_if_answered (TurnsTo arena size opponent side cursor old new) (Over ends.Mate) _ result
+      out taken
       tt h.1
   turn_next alternates (dues.Stalemate m) e old new result source left out taken h =
-      if_answers (TurnsTo arena size opponent side cursor old new) (Over ends.Stalemate) _ result out
+      holds_if_answered (TurnsTo arena size opponent side cursor old new) (Over ends.Stalemate) _
+      result out
       taken tt h.1
   turn_next alternates dues.Cut e old new result source left out taken h =
-      if_answers (TurnsTo arena size opponent side cursor old new) (Over ends.Cut) _ result out taken
+      holds_if_answered (TurnsTo arena size opponent side cursor old new) (Over ends.Cut) _ result
+      out taken
       tt h.1
   turn_next alternates (dues.Ply m) e old new result source left out taken h =
       ply_next alternates m e (by_codes opponent (same_colour m side)) refl old new result source

@@ -10,7 +10,7 @@ use Rattle.frz_backs.specs.Loaded.{link_loaded}
 use Rattle.frz_premises.specs.Trials.{AreTried}
 use Rattle.frz_premises.specs.WaysOut.{outside_of}
 use Rattle.frz_premises.proofs.Needs.{all_tellable}
-use Rattle.frz_premises.proofs.Trying.{if_ok}
+use Rattle.frz_premises.proofs.Trying.{weaker_holds_if_ok}
 use Rattle.frz_premises.proofs.premises.premises_of.Goals as goal
 
 pub walk-requires-clause-tried : goal.walk-requires-clause-tried
@@ -30,7 +30,7 @@ returns-clause-bases g c =
     let items = with_items_is c.in_ok-trials.trials c.walk.new.trials (omega arith) in
     let tried = subst (λ (ts : List Trial). AreTried rules links (outside_of rules.groups) ts)
     (sym (c.deref.ensures.value ∙ items)) c.walk.ensures.tried in
-    if_ok (λ (v : Vec Basis Global). (rs : RuleLines) (ls : List Link) →
+    weaker_holds_if_ok (λ (v : Vec Basis Global). (rs : RuleLines) (ls : List Link) →
     AreTried rs ls (outside_of rs.groups) c.deref.result.now → v.items ≡ bases_of rs ls)
     (λ (v : Vec Basis Global). v.items ≡ bases_of rules links) c.bases.result
     (λ v h. h rules links tried) c.bases.ensures
@@ -42,7 +42,7 @@ returns-clause-tellable g c =
     let items = with_items_is c.in_ok-trials.trials c.walk.new.trials (omega arith) in
     let tried = subst (λ (ts : List Trial). AreTried rules links (outside_of rules.groups) ts)
     (sym (c.deref.ensures.value ∙ items)) c.walk.ensures.tried in
-    if_ok (λ (v : Vec Basis Global). (rs : RuleLines) (ls : List Link) →
+    weaker_holds_if_ok (λ (v : Vec Basis Global). (rs : RuleLines) (ls : List Link) →
     AreTried rs ls (outside_of rs.groups) c.deref.result.now → v.items ≡ bases_of rs ls)
     (λ (v : Vec Basis Global). All (IsTellable (length c.args.backs.now)) v.items) c.bases.result
     (λ v h. subst (λ (bs : List Basis). All (IsTellable (length c.args.backs.now)) bs)

@@ -3,14 +3,14 @@ use Rattle.frz_store.specs.Told.{sink_of}
 use Rattle.frz_reasons.proofs.Lengths.{next_failure_is_shorter}
 use Rattle.frz_reasons.proofs.OneWay.{way_behind}
 use Rattle.frz_reasons.proofs.MovePlayed.{played_arm, plays_on}
-use Rattle.frz_reasons.proofs.Telling.{at_start, goes_so_far, told_failed, told_out, told_over}
+use Rattle.frz_reasons.proofs.Telling.{goes_so_far, so_far_at_start, told_failed, told_out, told_over}
 use Rattle.frz_reasons.proofs.failing_way.write_failing_way.Goals as goal
 
 pub plies-init : goal.plies-init
 plies-init g c = record {
   inside = c.requires.inside;
   failing = c.requires.failing;
-  so_far = at_start (g.G.NumberedGame.arena c.args.game.now) c.args.side
+  so_far = so_far_at_start (g.G.NumberedGame.arena c.args.game.now) c.args.side
       (g.E.Entries.codes c.args.entries.now c.args.side) c.args.start
       (sink_of g.O.Sink c.args.out.now);
   few = omega arith;

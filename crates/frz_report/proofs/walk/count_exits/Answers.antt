@@ -7,7 +7,7 @@ use Rattle.frz_game.specs.Games.{graph_by}
 use Rattle.frz_index.proofs.Lemmas.{position_tells}
 use Rattle.frz_report.specs.Exits.{classes_after, exits_below}
 use Rattle.frz_report.specs.Walks.{Counts}
-use Rattle.frz_report.proofs.Looking.{counted_more, few_with_one_more, on_ok, total_more}
+use Rattle.frz_report.proofs.Looking.{counted_more, few_with_one_more, total_more, weaker_holds_on_ok}
 use Rattle.frz_report.proofs.Walking.{arms_legal}
 use Rattle.frz_report.proofs.walk.count_exits.Goals as goal
 
@@ -41,7 +41,7 @@ returns-clause-counts g c =
     let value = g.B.ExitBook.value_at c.args.game.now.book.now in
     let are : c.as_slice.result.now ≡ (graph_by rules value).arms c.args.number =
     c.as_slice.ensures.value ∙ c.nexts_by.ensures.arms in
-    on_ok _ _ c.note_all.result
+    weaker_holds_on_ok _ _ c.note_all.result
     (λ (h : (exits : List (List ℕ)) → Counts c.args.census.now.classes.entries exits
     → Counts c.note_all.new.self.classes.entries
     (exits ++ classes_after c.args.p.now c.as_slice.result.now)).
@@ -55,7 +55,7 @@ returns-clause-total g c =
     let value = g.B.ExitBook.value_at c.args.game.now.book.now in
     let are : c.as_slice.result.now ≡ (graph_by rules value).arms c.args.number =
     c.as_slice.ensures.value ∙ c.nexts_by.ensures.arms in
-    on_ok _ _ c.note_all.result
+    weaker_holds_on_ok _ _ c.note_all.result
     (λ h. total_more rules value c.args.number c.args.p.now c.as_slice.result.now
     c.requires.position are c.args.census.now.total c.note_all.new.self.total c.requires.total h)
     c.note_all.ensures.total
@@ -64,7 +64,7 @@ pub returns-clause-few : goal.returns-clause-few
 returns-clause-few g c =
     let rules = c.args.game.now.rules.now in
     let value = g.B.ExitBook.value_at c.args.game.now.book.now in
-    on_ok _ _ c.note_all.result
+    weaker_holds_on_ok _ _ c.note_all.result
     (λ h. few_with_one_more rules value c.args.number c.args.p.now c.as_slice.result.now
     c.args.census.now.total c.note_all.new.self.total c.as_slice.ensures.fits c.requires.few h)
     c.note_all.ensures.total

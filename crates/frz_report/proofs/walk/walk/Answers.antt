@@ -6,7 +6,7 @@ use Rattle.frz_answer.proofs.Lemmas.{took_nothing}
 use Rattle.frz_report.specs.Exits.{exits_below}
 use Rattle.frz_report.specs.Squeezes.{squeeze_at, squeezes, squeezes_below}
 use Rattle.frz_report.specs.Walks.{Counts, WritesSome, lines_below, one_of}
-use Rattle.frz_report.proofs.Looking.{as_fault}
+use Rattle.frz_report.proofs.Looking.{holds_of_known_fault}
 use Rattle.frz_report.proofs.Walking.{many_more, one_at_most, stopped_more, took_more}
 use Rattle.frz_report.proofs.walk.walk.Goals as goal
 
@@ -61,7 +61,8 @@ returns-in_err-squeezes-clause-wrote g c =
     let size_is : c.size-number-end.result ≡ size_of rules.groups = c.size-number-end.ensures.size
     ∙ ap size_of c.args.game.now.fits in
     let low : n < size_of rules.groups = omega arith in
-    as_fault (λ r. WritesSome r (lines_below rules codes (size_of rules.groups)) many old new)
+    holds_of_known_fault (λ r. WritesSome r (lines_below rules codes (size_of rules.groups)) many
+    old new)
     c.in_err-squeezes.field-0.0 c.from_residual.result c.from_residual.ensures.1
     (stopped_more rules codes n (size_of rules.groups) old (sink_of g.O.Sink c.loop-number.out) new
     low c.loop-number.invariant.took c.in_err-squeezes.field-0.0

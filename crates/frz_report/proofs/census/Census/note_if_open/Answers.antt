@@ -1,7 +1,7 @@
 use Rattle.std.proofs.Common.{◌≡◌, ◌∙◌, ◌++◌, [], ◌∷◌, ap, sym, subst, List, ℕ, true}
 use Rattle.frz_report.specs.Exits.{class_of, classes_after, is_open}
 use Rattle.frz_report.specs.Walks.{Counts}
-use Rattle.frz_report.proofs.Looking.{on_ok}
+use Rattle.frz_report.proofs.Looking.{weaker_holds_on_ok}
 use Rattle.frz_report.proofs.Walking.{open_one}
 use Rattle.frz_report.proofs.census.Census.note_if_open.Goals as goal
 
@@ -15,7 +15,7 @@ returns-then-is_open-clause-counts c =
     let same : c.class_of.result.bytes ∷ [] ≡ classes_after c.args.p.now (c.args.arm ∷ []) =
     ap (λ (l : List ℕ). l ∷ []) (is ∙ ap class_of c.after-q.ensures.position)
     ∙ sym (open_one c.args.p.now c.args.arm open_exit) in
-    on_ok ((exits : List (List ℕ)) → Counts old exits
+    weaker_holds_on_ok ((exits : List (List ℕ)) → Counts old exits
     → Counts new (exits ++ c.class_of.result.bytes ∷ []))
     ((exits : List (List ℕ)) → Counts old exits
     → Counts new (exits ++ classes_after c.args.p.now (c.args.arm ∷ []))) c.note.result
