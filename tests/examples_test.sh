@@ -41,13 +41,27 @@ test_examples_compare_bounds_and_premises() {
     is "$status $err" "0 " "the status"
     has "$out" "all as wanted"
     has "$out" "rules, line 5 believed 8/8 b, believed 1"
-    is "$(count 'freezer build')" 4 "texts that are built by freezer: A, A and B for C, A for D"
+    is "$(count 'freezer build')" 2 "texts that are built by freezer: A, and B for C"
     is "$(grep '^atlas' "$FAKE_LOG" | cut -d ' ' -f 2-)" "premises B 
-build C C.t A.t B.t 
-check C.t A.t B.t 
-query C.t 8 w 
+build C C-over-A-B.t A.t B.t 
+check C-over-A-B.t A.t B.t 
+query C-over-A-B.t 8 w 
 premises C A.t B.t 
 premises D A.t " "what atlas is asked"
+}
+
+test_examples_remove_tables_that_are_not_needed_again() {
+    make_examples
+    sed -i '/^D/d' "$here/bounds"
+    printf 'E | 8/8 w | none | holds\n' >> "$here/bounds"
+    # shellcheck disable=SC2016 # the fake program tells the tables beside the one that it shall make
+    sed -i 's,^case,[ "$1" = build ] \&\& echo "$2 beside" "${3%/*}"/*.t >> "$FAKE_LOG"; case,' "$room/top/freezer" "$room/top/atlas"
+    run "$here/run"
+    is "$status $err" "0 " "the status"
+    is "$(grep ' beside ' "$FAKE_LOG" | sed 's,[^ ]*/,,g')" "A beside *.t
+B beside A.t
+C beside A.t B.t
+E beside *.t" "the tables that are there when one is built"
 }
 
 test_examples_tell_other_premises() {

@@ -4,6 +4,7 @@ mod TablesOnce
 mod RulesAnswered
 mod HeldNames
 mod HeldTable
+mod RulesRead
 mod SmallPlaces
 mod FaultEnds
 mod NamesTaken

@@ -1,4 +1,5 @@
 pub mod Lemmas
+mod HandedOn
 mod Pairs
 mod Told
 mod TrueValues

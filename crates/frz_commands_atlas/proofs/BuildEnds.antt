@@ -25,7 +25,7 @@ use Rattle.frz_answer.specs.World.{World, world, Agrees, spent}
 use Rattle.frz_answer.proofs.Lemmas.{Begun, Found, fine_store, not_written, quiet_both, wrote_it}
 use Rattle.frz_prelude.specs.Refusals.{status_of}
 use Rattle.frz_prelude.specs.Replies.{built_line}
-use Rattle.frz_prelude.specs.RulesFiles.{GivesText, IsTextRead, asked_of, or_fault, reads_of}
+use Rattle.frz_prelude.specs.RulesFiles.{GivesText, IsTextRead, if_rules, size_by}
 use Rattle.frz_prelude.specs.declared.refused.Refused.{Refused as Refusal}
 use Rattle.frz_prelude.specs.declared.rules_at.RulesText.{RulesText}
 use Rattle.frz_prelude.specs.declared.stop.Stop.{Stop}
@@ -47,8 +47,8 @@ use Rattle.frz_atlas_prelude.specs.BackLines.{back_status}
 use Rattle.frz_atlas_prelude.specs.Ending.{EndsAt, HasSmallPlace}
 use Rattle.frz_atlas_prelude.specs.Names.{has_twice}
 use Rattle.frz_atlas_prelude.specs.Tables.{AreTablesIn}
-use Rattle.frz_atlas_prelude.proofs.Lemmas.{Holds, apart_names_hold, ended_at, held_rules, judged_exact, may_hold_there, place_refused, without_second}
-use Rattle.frz_commands_atlas.specs.Building.{IsBuiltAt, build_costs, building_at, if_rules, made, no_back, no_rules, size_by}
+use Rattle.frz_atlas_prelude.proofs.Lemmas.{Holds, bytes_to_read, calls_to_read, ended_at, held_rules, holds_rules, judged_exact, place_refused, spent_by_files, without_second}
+use Rattle.frz_commands_atlas.specs.Building.{IsBuiltAt, build_costs, building_at, costs_by, made, no_back, no_rules}
 use Rattle.frz_commands_atlas.proofs.BuildOnce.{some_build}
 
 -- each end has a status of `build`
@@ -110,37 +110,16 @@ part_after name whole old mid new quiet h = record {
   later = later_store old mid new quiet.later h.later;
 }
 
--- what is spent, by the rules that the file gives
-abbrev costs_by : Result RuleLines Refusal → Option (List ℕ) → List (Option (List ℕ)) → Costs
-costs_by read held behind = record {
-  steps = Some (if_rules read (sum_by steps_of behind + 4 * size_by read));
-  calls = Some (1 + reads_of held
-      + if_rules read (sum_by calls_of behind + writing_calls (size_by read)));
-  asked = Some (asked_of held + if_rules read (sum_by bytes_of behind));
-}
-
 module _ (rules table : List ℕ) (behind : List (List ℕ))
     (apart : has_twice (rules ∷ table ∷ behind) ≡ false) (read : RulesText)
     (old mid new : StoreTold) (before now : ℕ) (text_read : IsTextRead rules (Ok read) old mid)
     (quiet : StoreQuiet old mid) (fine : StoreFine old mid) (later : before ≤ now) where
-  abbrev text : List ℕ
-  text = read.text.items
-
-  abbrev lines : RuleLines
-  lines = read.rules
-
-  text_is_accepted : rules_of text ≡ Ok lines
-  text_is_accepted = text_read.due.1
-
-  -- files that hold what the names may hold
-  holds_these_tables : (helds : List (Option (List ℕ))) → MayHoldAll mid.files behind helds
-      → Holds old.files rules behind (Some text) helds
-  holds_these_tables helds may =
-      apart_names_hold old.files rules behind (without_second rules table behind apart) (Some text)
-      helds
-      (subst (λ (x : Option (List ℕ)). MayHold old.files rules x) text_read.due.0
-      (may_hold_there old.files text_read.files rules text_read.agrees))
-      (subst (λ (o : Option Files). MayHoldAll o behind helds) quiet.unwritten.files may)
+  -- files that hold the rules, and what the names of the tables may hold
+  there_are : (helds : List (Option (List ℕ))) → MayHoldAll mid.files behind helds
+      → Holds old.files rules behind (Some read.text.items) helds
+  there_are helds may =
+      holds_rules rules read old mid text_read behind (without_second rules table behind apart)
+      quiet helds may
 
   module _ (input : SourceTold) (out : SinkTold) where
     abbrev start : World
@@ -150,36 +129,29 @@ module _ (rules table : List ℕ) (behind : List (List ℕ))
     done = world new input out now
 
     spent_within_costs : (helds : List (Option (List ℕ)))
-        (h : Holds old.files rules behind (Some text) helds)
-        → WithinBuilding text helds mid new before now
+        (h : Holds old.files rules behind (Some read.text.items) helds)
+        → WithinBuilding read.text.items helds mid new before now
         → WithinCosts (build_costs (h.all.files rules) (map h.all.files behind)) (spent start)
         (spent done)
     spent_within_costs helds h within =
         let steps = subst (λ (x : Result RuleLines RulesFault). now ≤ before + if_read x
-        (sum_by steps_of helds + 4 * text_size x)) text_is_accepted within.steps in
+        (sum_by steps_of helds + 4 * text_size x)) text_read.due.1 within.steps in
         let asked = subst (λ (x : Result RuleLines RulesFault). new.asked ≤ mid.asked + if_read x
-        (sum_by bytes_of helds)) text_is_accepted within.asked in
+        (sum_by bytes_of helds)) text_read.due.1 within.asked in
         let calls = subst (λ (x : Result RuleLines RulesFault). new.calls ≤ mid.calls + if_read x
-        (sum_by calls_of helds + writing_calls (text_size x))) text_is_accepted within.calls in
-        let first_asked = subst (λ (x : Option (List ℕ)). mid.asked ≤ old.asked + asked_of x)
-        text_read.due.0 text_read.asked in
-        let first_calls = subst (λ (x : Option (List ℕ)). mid.calls ≤ old.calls + (1 + reads_of x))
-        text_read.due.0 text_read.calls in
-        let by_lines : WithinCosts (costs_by (Ok lines) (Some text) helds) (spent start)
-        (spent done) = record {
+        (sum_by calls_of helds + writing_calls (text_size x))) text_read.due.1 within.calls in
+        let first_asked = bytes_to_read rules read old mid text_read in
+        let first_calls = calls_to_read rules read old mid text_read in
+        spent_by_files costs_by (h.all.files rules) read.text.items read.rules
+        (map h.all.files behind) helds h.here text_read.due.1 h.others (spent start) (spent done)
+        (record {
           steps = steps;
           calls = omega (arith, calls, first_calls);
           asked = omega (arith, asked, first_asked);
-        } in
-        subst (λ (x : Option (List ℕ)). WithinCosts (build_costs x (map h.all.files behind))
-        (spent start) (spent done)) (sym h.here)
-        (subst (λ (l : List (Option (List ℕ))). WithinCosts (build_costs (Some text) l)
-        (spent start) (spent done)) (sym h.others)
-        (subst (λ (x : Result RuleLines Refusal). WithinCosts (costs_by x (Some text) helds)
-        (spent start) (spent done)) (sym (ap or_fault text_is_accepted)) by_lines))
+        })
 
     abbrev found : (helds : List (Option (List ℕ)))
-        (h : Holds old.files rules behind (Some text) helds) (files : Files) (left : List ℕ)
+        (h : Holds old.files rules behind (Some read.text.items) helds) (files : Files) (left : List ℕ)
         → Agrees start files left → Found (building_at rules table behind) files left start
     found helds h files left agrees =
         found_where (building_at rules table behind) h.all.files files left start (λ e. cc)
@@ -187,13 +159,13 @@ module _ (rules table : List ℕ) (behind : List (List ℕ))
 
     -- the table is made
     is_made : (helds : List (Option (List ℕ)))
-        (h : Holds old.files rules behind (Some text) helds) (tables : List TableBytes)
-        (bytes : List ℕ) (r : RuleLines) → rules_of text ≡ Ok r → helds ≡ all_held tables
-        → AreTablesIn helds tables → IsFileOver text r (backs_in tables) bytes
+        (h : Holds old.files rules behind (Some read.text.items) helds) (tables : List TableBytes)
+        (bytes : List ℕ) (r : RuleLines) → rules_of read.text.items ≡ Ok r → helds ≡ all_held tables
+        → AreTablesIn helds tables → IsFileOver read.text.items r (backs_in tables) bytes
         → IsBuiltAt rules table behind h.all.files
         (says statuses.Success (built_line (size_of r.groups)) (put h.all.files table bytes))
     is_made helds h tables bytes r reads there exact one = made (record {
-      text = text;
+      text = read.text.items;
       there = h.here;
       lines = r;
       accepted = reads;
@@ -205,7 +177,7 @@ module _ (rules table : List ℕ) (behind : List (List ℕ))
     })
 
     pub table_is_made : (size : ℕ) (end : End) (after : SinkTold)
-        → BuildsAtlas text behind table mid new before now size → new.room ≡ 0
+        → BuildsAtlas read.text.items behind table mid new before now size → new.room ≡ 0
         → Said statuses.Success (built_line size) end out after
         → Ran (building_at rules table behind) end start (world new input after now)
     table_is_made size end after b full told =
@@ -213,7 +185,7 @@ module _ (rules table : List ℕ) (behind : List (List ℕ))
         (built_line size) end after refl (wrote_after table b.bytes old mid new quiet b.written)
         (fine_after old mid new fine b.fine) full told
         (λ files left agrees.
-        let h = holds_these_tables (all_held b.tables) b.may_all in
+        let h = there_are (all_held b.tables) b.may_all in
         let whole = is_made (all_held b.tables) h b.tables b.bytes b.rules b.accepted refl
         (record { there = refl; exact = judged_exact [] b.tables b.exact }) b.one_file in
         record {
@@ -226,9 +198,9 @@ module _ (rules table : List ℕ) (behind : List (List ℕ))
         })
 
     module _ (end : End) (after : SinkTold) (fault : AtlasFault)
-        (r : RefusesToBuild text behind table mid new before now fault) where
-      abbrev h : Holds old.files rules behind (Some text) r.helds
-      h = holds_these_tables r.helds r.may_all
+        (r : RefusesToBuild read.text.items behind table mid new before now fault) where
+      abbrev h : Holds old.files rules behind (Some read.text.items) r.helds
+      h = there_are r.helds r.may_all
 
       refusal_begun : (files : Files) (left : List ℕ) → Agrees start files left
           → Begun (building_at rules table behind) files left start done
@@ -245,7 +217,8 @@ module _ (rules table : List ℕ) (behind : List (List ℕ))
       quiet_from_start more = quiet_after old mid new quiet more
 
       -- the store failed within the bytes
-      written_in_part : FailsWriting text table r.helds mid new → Rose mid.faults new.faults
+      written_in_part : FailsWriting read.text.items table r.helds mid new
+          → Rose mid.faults new.faults
           → EndsAt Failed end out after
           → Ran (building_at rules table behind) end start (world new input after now)
       written_in_part f rose ends =
@@ -268,11 +241,11 @@ module _ (rules table : List ℕ) (behind : List (List ℕ))
                 record { steps = c.steps; calls = c.calls; asked = c.asked });
           }))
 
-      by_fault : (f : AtlasFault) → IsNotBuilt text table r.helds mid new f
+      by_fault : (f : AtlasFault) → IsNotBuilt read.text.items table r.helds mid new f
           → HasAtlasCause {T = ℕ} (Err f) mid new → EndsAt f end out after
           → Ran (building_at rules table behind) end start (world new input after now)
       by_fault (Rules f) refused cause ends =
-          let no : ◌≡◌ {A = Result RuleLines RulesFault} (Ok lines) (Err f) = sym text_is_accepted
+          let no : ◌≡◌ {A = Result RuleLines RulesFault} (Ok read.rules) (Err f) = sym text_read.due.1
           ∙ refused.0 in cc
       by_fault (Table f) refused cause ends = absurd refused
       by_fault (Back place f) refused cause ends =
@@ -285,8 +258,9 @@ module _ (rules table : List ℕ) (behind : List (List ℕ))
           (λ files left agrees. record {
             found = found r.helds h files left agrees;
             answer = no_back (record {
-              lines = lines;
-              accepted = held_rules (h.all.files rules) text lines h.here text_is_accepted;
+              lines = read.rules;
+              accepted = held_rules (h.all.files rules) read.text.items read.rules h.here
+                  text_read.due.1;
               place = place;
               fault = f;
               refused = subst (λ (l : List (Option (List ℕ))). IsRefusedAt [] l place f)

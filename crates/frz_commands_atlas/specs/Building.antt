@@ -8,7 +8,7 @@ use Rattle.frz_answer.specs.Answers.{Answer, says}
 use Rattle.frz_answer.specs.Jobs.{Costs, Job, Once, plain, WithinCosts}
 use Rattle.frz_answer.specs.Words.{taking, unless}
 use Rattle.frz_prelude.specs.Replies.{built_line}
-use Rattle.frz_prelude.specs.RulesFiles.{asked_of, reads_of, rules_held}
+use Rattle.frz_prelude.specs.RulesFiles.{asked_of, if_rules, reads_of, rules_held, size_by}
 use Rattle.frz_prelude.specs.declared.refused.Refused.{Refused}
 use Rattle.frz_sets.specs.Sets.{size_of}
 use Rattle.frz_sets.specs.Views.{RuleLines}
@@ -54,26 +54,20 @@ pub record MeansBuild (rules table : List ℕ) (behind : List (List ℕ)) (files
   pub untaken : a.taken ≡ 0
   pub says : MeansByStatus rules table behind files a a.status
 
--- `count` where the rules are accepted, and else 0
-abbrev pub if_rules : Result RuleLines Refused → ℕ → ℕ
-if_rules (Ok lines) count = count
-if_rules (Err why) count = 0
+-- the costs of `build`, by the rules that its file gives: reading the file and, where it is
+-- accepted, checking each of the tables behind, four steps a number, and the calls that write the
+-- table
+abbrev pub costs_by : Result RuleLines Refused → (held : Option (List ℕ)) → List (Option (List ℕ))
+    → Costs
+costs_by read held behind = record {
+  steps = Some (if_rules read (sum_by steps_of behind + 4 * size_by read));
+  calls = Some (1 + reads_of held
+      + if_rules read (sum_by calls_of behind + writing_calls (size_by read)));
+  asked = Some (asked_of held + if_rules read (sum_by bytes_of behind));
+}
 
-abbrev pub size_by : Result RuleLines Refused → ℕ
-size_by (Ok lines) = size_of lines.groups
-size_by (Err why) = 0
-
--- the costs of `build`: reading the rules file and, where it is accepted, checking each of the
--- tables behind, four steps a number, and the calls that write the table
 abbrev pub build_costs : (held : Option (List ℕ)) → List (Option (List ℕ)) → Costs
-build_costs held behind =
-    let read = rules_held held in
-    record {
-      steps = Some (if_rules read (sum_by steps_of behind + 4 * size_by read));
-      calls = Some (1 + reads_of held
-          + if_rules read (sum_by calls_of behind + writing_calls (size_by read)));
-      asked = Some (asked_of held + if_rules read (sum_by bytes_of behind));
-    }
+build_costs held behind = costs_by (rules_held held) held behind
 
 -- `build` with names no two of which are the same
 abbrev pub building_at : List ℕ → List ℕ → List (List ℕ) → Job

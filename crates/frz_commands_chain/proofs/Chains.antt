@@ -13,7 +13,7 @@ use Rattle.frz_chain.proofs.Lemmas.{all_if_exact}
 use Rattle.frz_prelude.specs.RulesFiles.{or_fault, rules_held}
 use Rattle.frz_prelude.specs.declared.refused.Refused.{Refused}
 use Rattle.frz_commands_chain.specs.Backs.{IsBackIn}
-use Rattle.frz_commands_chain.specs.Chaining.{chain_costs, chaining_at, chaining_by, made, size_by, writing_by}
+use Rattle.frz_commands_chain.specs.Chaining.{chain_costs, chaining_at, chaining_by, made, writing_by}
 use Rattle.frz_commands_chain.specs.Reading.{AreBothRead, reading_bytes, reading_calls, reading_steps}
 use Rattle.frz_commands_chain.specs.declared.reading.BothRead.{BothRead}
 use Rattle.frz_commands_chain.proofs.BackOnce.{back_exact}

@@ -10,7 +10,7 @@ use Rattle.frz_answer.specs.Jobs.{Costs, Job, Once, plain, nothing, WithinCosts}
 use Rattle.frz_answer.specs.Words.{taking, three_words_of, unless}
 use Rattle.frz_prelude.specs.Refusals.{refusal_line, status_of}
 use Rattle.frz_prelude.specs.Replies.{chained_line}
-use Rattle.frz_prelude.specs.RulesFiles.{rules_held}
+use Rattle.frz_prelude.specs.RulesFiles.{rules_held, size_by}
 use Rattle.frz_prelude.specs.declared.refused.Refused.{Refused}
 use Rattle.frz_sets.specs.Views.{RuleLines}
 use Rattle.frz_sets.specs.Sets.{size_of}
@@ -76,10 +76,6 @@ chaining_by text r back table = record (plain (statuses.Success ∷ [])
 abbrev pub writing_by : Result RuleLines Refused → ℕ
 writing_by (Ok r) = writing_calls (size_of r.groups)
 writing_by (Err why) = 0
-
-abbrev pub size_by : Result RuleLines Refused → ℕ
-size_by (Ok r) = size_of r.groups
-size_by (Err why) = 0
 
 -- the costs of `chain`: what reading the rules file and checking the back table costs. Where both
 -- are accepted, add four steps a number and the calls that write the table

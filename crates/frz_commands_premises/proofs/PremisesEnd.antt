@@ -36,12 +36,12 @@ use Rattle.frz_atlas_prelude.specs.declared.names.TheConstants.{MOST_BACKS}
 use Rattle.frz_atlas_prelude.specs.BackLines.{back_status}
 use Rattle.frz_atlas_prelude.specs.Ending.{EndsAt, HasSmallPlace}
 use Rattle.frz_atlas_prelude.specs.Names.{has_twice}
-use Rattle.frz_atlas_prelude.proofs.Lemmas.{AnswersAt, Holds, MayEndAt, apart_names_hold, as_many_as_names, ended_at, held_rules, judged_exact, may_hold_there, place_refused}
+use Rattle.frz_atlas_prelude.proofs.Lemmas.{AnswersAt, Holds, MayEndAt, as_many_as_names, bytes_to_read, calls_to_read, ended_at, held_rules, holds_rules, judged_exact, place_refused, spent_by_files}
 use Rattle.frz_commands_premises.specs.declared.line.Line.{Line}
 use Rattle.frz_commands_premises.specs.Finding.{FindsLines, FindsNone, WithinFinding}
 use Rattle.frz_commands_premises.specs.LineTexts.{IsWritable, line_text}
 use Rattle.frz_commands_premises.specs.PremiseLines.{text_link_of}
-use Rattle.frz_commands_premises.specs.Premises.{found, if_rules, no_back, no_rules, premises_costs, size_by}
+use Rattle.frz_commands_premises.specs.Premises.{costs_by, found, no_back, no_rules, premises_costs}
 use Rattle.frz_commands_premises.specs.Premising.{premising_at}
 use Rattle.frz_commands_premises.proofs.Once.{some_told}
 use Rattle.frz_commands_premises.proofs.Writable.{all_writable}
@@ -86,36 +86,10 @@ stopped_at rules behind (stops.Fault fault) files input old new read steps agree
   });
 }
 
--- what is spent, by the rules that the file gives
-abbrev costs_by : Result RuleLines Refusal → Option (List ℕ) → List (Option (List ℕ)) → Costs
-costs_by read held behind = record {
-  steps = Some (if_rules read (2 * sum_by steps_of behind + 2 * size_by read));
-  calls = Some (1 + reads_of held + if_rules read (sum_by calls_of behind));
-  asked = Some (asked_of held + if_rules read (sum_by bytes_of behind));
-}
-
 module _ (rules : List ℕ) (behind : List (List ℕ)) (apart : has_twice (rules ∷ behind) ≡ false)
     (read : RulesText) (old mid new : StoreTold) (before now : ℕ)
     (text_read : IsTextRead rules (Ok read) old mid) (quiet : StoreQuiet old mid)
     (fine : StoreFine old mid) (more : StoreQuiet mid new) (later : before ≤ now) where
-  abbrev text : List ℕ
-  text = read.text.items
-
-  abbrev lines : RuleLines
-  lines = read.rules
-
-  text_is_accepted : rules_of text ≡ Ok lines
-  text_is_accepted = text_read.due.1
-
-  -- files that hold what the names may hold
-  holds_these_tables : (helds : List (Option (List ℕ))) → MayHoldAll mid.files behind helds
-      → Holds old.files rules behind (Some text) helds
-  holds_these_tables helds may =
-      apart_names_hold old.files rules behind apart (Some text) helds
-      (subst (λ (x : Option (List ℕ)). MayHold old.files rules x) text_read.due.0
-      (may_hold_there old.files text_read.files rules text_read.agrees))
-      (subst (λ (o : Option Files). MayHoldAll o behind helds) quiet.unwritten.files may)
-
   module _ (input : SourceTold) (out : SinkTold) where
     abbrev start : World
     start = world old input out before
@@ -124,43 +98,36 @@ module _ (rules : List ℕ) (behind : List (List ℕ)) (apart : has_twice (rules
     done = world new input out now
 
     spent_within_costs : (helds : List (Option (List ℕ)))
-        (h : Holds old.files rules behind (Some text) helds)
-        → WithinFinding lines helds mid new before now
+        (h : Holds old.files rules behind (Some read.text.items) helds)
+        → WithinFinding read.rules helds mid new before now
         → WithinCosts (premises_costs (h.all.files rules) (map h.all.files behind)) (spent start)
         (spent done)
     spent_within_costs helds h within =
         let asked = within.asked in
         let calls = within.calls in
-        let first_asked = subst (λ (x : Option (List ℕ)). mid.asked ≤ old.asked + asked_of x)
-        text_read.due.0 text_read.asked in
-        let first_calls = subst (λ (x : Option (List ℕ)). mid.calls ≤ old.calls + (1 + reads_of x))
-        text_read.due.0 text_read.calls in
-        let by_lines : WithinCosts (costs_by (Ok lines) (Some text) helds) (spent start)
-        (spent done) = record {
+        let first_asked = bytes_to_read rules read old mid text_read in
+        let first_calls = calls_to_read rules read old mid text_read in
+        spent_by_files costs_by (h.all.files rules) read.text.items read.rules
+        (map h.all.files behind) helds h.here text_read.due.1 h.others (spent start) (spent done)
+        (record {
           steps = within.steps;
           calls = omega (arith, calls, first_calls);
           asked = omega (arith, asked, first_asked);
-        } in
-        subst (λ (x : Option (List ℕ)). WithinCosts (premises_costs x (map h.all.files behind))
-        (spent start) (spent done)) (sym h.here)
-        (subst (λ (l : List (Option (List ℕ))). WithinCosts (premises_costs (Some text) l)
-        (spent start) (spent done)) (sym h.others)
-        (subst (λ (x : Result RuleLines Refusal). WithinCosts (costs_by x (Some text) helds)
-        (spent start) (spent done)) (sym (ap or_fault text_is_accepted)) by_lines))
+        })
 
     reads_once : (premising_at rules behind).needs.reads ≡ Never → ⊥
     reads_once e = cc
 
     abbrev at_files : (helds : List (Option (List ℕ)))
-        (h : Holds old.files rules behind (Some text) helds) (files : Files) (left : List ℕ)
-        → Agrees start files left → Found (premising_at rules behind) files left start
+        (h : Holds old.files rules behind (Some read.text.items) helds) (files : Files)
+        (left : List ℕ) → Agrees start files left → Found (premising_at rules behind) files left start
     at_files helds h files left agrees =
         found_where (premising_at rules behind) h.all.files files left start reads_once
         h.all.agrees agrees
 
     -- the premises are told
     pub premises_are_told : (end : End) (after : SinkTold) (told : List Line)
-        → FindsLines text lines behind mid new before now told
+        → FindsLines read.text.items read.rules behind mid new before now told
         → HasAtlasCause {T = List Line} (Ok told) mid new
         → Said Success (flat_map line_text told) end out after
         → Ran (premising_at rules behind) end start (world new input after now)
@@ -170,14 +137,15 @@ module _ (rules : List ℕ) (behind : List (List ℕ)) (apart : has_twice (rules
         (fine_store old new input out before now (fine_after old mid new fine cause)) refl
         (subst (λ (l : List Line). Said Success (flat_map line_text l) end out after) f.told wrote)
         (λ files left agrees.
-        let h = holds_these_tables (all_held f.tables) f.may_all in
+        let h = holds_rules rules read old mid text_read behind apart quiet (all_held f.tables)
+        f.may_all in
         record {
           found = at_files (all_held f.tables) h files left agrees;
           answer = found (record {
-            text = text;
+            text = read.text.items;
             there = h.here;
-            lines = lines;
-            accepted = text_is_accepted;
+            lines = read.rules;
+            accepted = text_read.due.1;
             tables = f.tables;
             behind_it = record { there = h.others; exact = judged_exact [] f.tables f.exact };
             told = refl;
@@ -187,9 +155,9 @@ module _ (rules : List ℕ) (behind : List (List ℕ)) (apart : has_twice (rules
 
     -- a table is refused, or something could not be read
     module _ (end : End) (after : SinkTold) (fault : AtlasFault)
-        (r : FindsNone lines behind mid new before now fault) where
-      abbrev h : Holds old.files rules behind (Some text) r.helds
-      h = holds_these_tables r.helds r.may_all
+        (r : FindsNone read.rules behind mid new before now fault) where
+      abbrev h : Holds old.files rules behind (Some read.text.items) r.helds
+      h = holds_rules rules read old mid text_read behind apart quiet r.helds r.may_all
 
       refusal_begun : (files : Files) (left : List ℕ) → Agrees start files left
           → Begun (premising_at rules behind) files left start done
@@ -220,8 +188,9 @@ module _ (rules : List ℕ) (behind : List (List ℕ)) (apart : has_twice (rules
       answers_at (Back place f) refused files left agrees = record {
         found = at_files r.helds h files left agrees;
         answer = no_back (record {
-          lines = lines;
-          accepted = held_rules (h.all.files rules) text lines h.here text_is_accepted;
+          lines = read.rules;
+          accepted = held_rules (h.all.files rules) read.text.items read.rules h.here
+              text_read.due.1;
           place = place;
           fault = f;
           refused = subst (λ (l : List (Option (List ℕ))). IsRefusedAt [] l place f)

@@ -1,14 +1,13 @@
 -- What `premises RULES BACK ..` answers: what each exit line of the BACKs and of RULES rests on. No
 -- file changes.
 use Rattle.std.specs.Prelude.{◌≡◌, ℕ, ◌+◌, ◌*◌, List, map, sum_by, Option, Some, Result, Ok, Err}
-use Rattle.frz_sets.specs.Sets.{size_of}
 use Rattle.frz_sets.specs.Views.{RuleLines}
 use Rattle.frz_rules.specs.Text.{rules_of}
 use Rattle.frz_store.specs.Files.{Files}
 use Rattle.frz_answer.specs.declared.status.Status.TheVariants.{Success}
 use Rattle.frz_answer.specs.Answers.{Answer, says}
 use Rattle.frz_answer.specs.Jobs.{Costs}
-use Rattle.frz_prelude.specs.RulesFiles.{asked_of, reads_of, rules_held}
+use Rattle.frz_prelude.specs.RulesFiles.{asked_of, if_rules, reads_of, rules_held, size_by}
 use Rattle.frz_prelude.specs.declared.refused.Refused.{Refused}
 use Rattle.frz_atlas.specs.Behind.{TableBytes}
 use Rattle.frz_atlas.specs.Costs.{bytes_of, calls_of, steps_of}
@@ -35,22 +34,16 @@ pub data IsToldAt (rules : List ℕ) (behind : List (List ℕ)) (files : Files)
   no_back : RefusesBack rules behind files a → IsToldAt rules behind files a
   found : FindsPremises rules behind files a → IsToldAt rules behind files a
 
--- `count` where the rules are accepted, and else 0
-abbrev pub if_rules : Result RuleLines Refused → ℕ → ℕ
-if_rules (Ok lines) count = count
-if_rules (Err why) count = 0
+-- the costs of `premises`, by the rules that its file gives: reading the file and, where it is
+-- accepted, checking each of the tables behind, one more step for each of their numbers, and two
+-- steps a number of RULES
+abbrev pub costs_by : Result RuleLines Refused → (held : Option (List ℕ)) → List (Option (List ℕ))
+    → Costs
+costs_by read held behind = record {
+  steps = Some (if_rules read (2 * sum_by steps_of behind + 2 * size_by read));
+  calls = Some (1 + reads_of held + if_rules read (sum_by calls_of behind));
+  asked = Some (asked_of held + if_rules read (sum_by bytes_of behind));
+}
 
-abbrev pub size_by : Result RuleLines Refused → ℕ
-size_by (Ok lines) = size_of lines.groups
-size_by (Err why) = 0
-
--- the costs of `premises`: reading the rules file and, where it is accepted, checking each of the
--- tables behind, one more step for each of their numbers, and two steps a number of RULES
 abbrev pub premises_costs : (held : Option (List ℕ)) → List (Option (List ℕ)) → Costs
-premises_costs held behind =
-    let read = rules_held held in
-    record {
-      steps = Some (if_rules read (2 * sum_by steps_of behind + 2 * size_by read));
-      calls = Some (1 + reads_of held + if_rules read (sum_by calls_of behind));
-      asked = Some (asked_of held + if_rules read (sum_by bytes_of behind));
-    }
+premises_costs held behind = costs_by (rules_held held) held behind

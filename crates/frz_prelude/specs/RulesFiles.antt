@@ -4,6 +4,7 @@ use Rattle.std.specs.Prelude.{◌≡◌, ℕ, ◌<◌, ◌≤◌, ◌+◌, List,
 use Rattle.frz_rules.specs.declared.fault.TheConstants.{LONGEST_TEXT}
 use Rattle.frz_rules.specs.declared.fault.RulesFault.{RulesFault}
 use Rattle.frz_rules.specs.Text.{rules_of}
+use Rattle.frz_sets.specs.Sets.{size_of}
 use Rattle.frz_sets.specs.Views.{RuleLines}
 use Rattle.frz_store.specs.Bytes.{AreBytes, MayBeHeld}
 use Rattle.frz_store.specs.Files.{Files}
@@ -56,6 +57,16 @@ or_fault (Err fault) = Err (Rules fault)
 abbrev pub rules_held : Option (List ℕ) → Result RuleLines Refusal
 rules_held None = Err MissingRules
 rules_held (Some text) = or_fault (rules_of text)
+
+-- `count` where the rules are accepted, and else 0
+abbrev pub if_rules : Result RuleLines Refusal → ℕ → ℕ
+if_rules (Ok lines) count = count
+if_rules (Err why) count = 0
+
+-- how many numbers the set of the rules has, and 0 where they are not accepted
+abbrev pub size_by : Result RuleLines Refusal → ℕ
+size_by (Ok lines) = size_of lines.groups
+size_by (Err why) = 0
 
 -- the text is what the name holds, with the rules of the text; or the name holds no rules, for this
 -- reason. Nothing is said where a fault stopped the call

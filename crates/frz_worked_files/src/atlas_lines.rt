@@ -1,7 +1,7 @@
 //! Lines and sessions of the program `atlas`, over tables made by hand.
 ghost use Rattle.std.specs.Prelude.{◌≡◌, ◌<◌};
 
-use crate::stores::{check_bytes, words_of};
+use crate::stores::{Row, check_bytes, empty_sink, failing_call, words_of};
 use frz_answer::{End, Fault, Status};
 use frz_commands_journeys::{run_line, run_play};
 use frz_steps::Steps;
@@ -77,17 +77,11 @@ fn play(
     played::<Brand>(alloc, blank, line, input, store, out)
 }
 
-/// The words of a line, its end and its text.
-#[derive(Drop)]
-struct Row(&'static [&'static str], End, &'static [u8]);
-
-/// A line over this store ends so, with this text.
-fn check_row(rt: &impl Abort, alloc: Global, row: &Row, store: &mut MemStore) -> Result<(), Fail> {
-    let Row(line, wanted, text) = row;
-    let mut out = MemSink::new(alloc, 300, Vec::new(alloc)).or(Err("sink"))?;
-    let end = play(alloc, line, None, store, &mut out)?;
-    check_bytes(rt, out.taken(), text, "line");
-    assert_eq!(rt; end, *wanted);
+/// A line over a store whose calls fail so answers what the row says.
+fn check_line(rt: &impl Abort, alloc: Global, row: &Row, fails: &[Failing]) -> Result<(), Fail> {
+    let mut store = filled(alloc, fails)?;
+    let mut out = empty_sink(alloc, 300)?;
+    row.check(rt, play(alloc, row.0, None, &mut store, &mut out)?, &out);
     Ok(())
 }
 
@@ -156,8 +150,7 @@ const ROWS: &[Row] = &[
 #[test]
 fn lines_over_tables_behind(rt: HostRuntime) -> Result<(), Fail> {
     for row in ROWS {
-        let mut store = filled(rt.alloc(), &[])?;
-        check_row(&rt, rt.alloc(), row, &mut store)?;
+        check_line(&rt, rt.alloc(), row, &[])?;
     }
     Ok(())
 }
@@ -168,19 +161,13 @@ const CALLS: u64 = 16;
 
 #[test]
 fn each_call_of_a_line_may_fail_before_anything_is_written(rt: HostRuntime) -> Result<(), Fail> {
+    let row = Row(
+        &["knight", CORNER, "white", "rook"],
+        End::Stopped(Fault::Store),
+        b"",
+    );
     for nth in 1..CALLS + 1 {
-        let call = Failing {
-            on: FailOn::Call,
-            nth,
-            keep: 0,
-        };
-        let mut store = filled(rt.alloc(), &[call])?;
-        let row = Row(
-            &["knight", CORNER, "white", "rook"],
-            End::Stopped(Fault::Store),
-            b"",
-        );
-        check_row(&rt, rt.alloc(), &row, &mut store)?;
+        check_line(&rt, rt.alloc(), &row, &[failing_call(nth)])?;
     }
     Ok(())
 }
@@ -239,7 +226,7 @@ fn check_reply(rt: &impl Abort, alloc: Global, row: &Reply) -> Result<(), Fail> 
     let Reply(bytes, fails, wanted, text, left) = row;
     let mut store = filled(alloc, &[])?;
     let mut input = MemSource::new(bytes.to_vec(alloc)?, fails.to_vec(alloc)?);
-    let mut out = MemSink::new(alloc, 300, Vec::new(alloc)).or(Err("sink"))?;
+    let mut out = empty_sink(alloc, 300)?;
     let line = ["knight", CORNER, "white", "rook"];
     let end = play(alloc, &line, Some(&mut input), &mut store, &mut out)?;
     check_bytes(rt, out.taken(), text, "play");

@@ -1,11 +1,11 @@
 //! Reports of a pawn's table over tables of what it leaves behind, all made by hand.
 ghost use Rattle.std.specs.Prelude.{◌≡◌, ◌<◌};
 
-use crate::stores::{check_bytes, words_of};
+use crate::stores::{Row, empty_sink, failing_call, words_of};
 use frz_answer::{End, Fault, Status};
 use frz_commands_atlas::run_report;
 use frz_steps::Steps;
-use frz_store::{Fail as Failing, FailOn, MemSink, MemStore};
+use frz_store::{Fail as Failing, MemSink, MemStore};
 use std::alloc::Global;
 use std::marker::Brand;
 use std::process::Abort;
@@ -90,17 +90,11 @@ fn report(
     reported::<Brand>(alloc, blank, line, store, out)
 }
 
-/// The words of a report, its end and its text.
-#[derive(Drop)]
-struct Row(&'static [&'static str], End, &'static [u8]);
-
-/// A report over this store ends so, with this text.
-fn check_row(rt: &impl Abort, alloc: Global, row: &Row, store: &mut MemStore) -> Result<(), Fail> {
-    let Row(line, wanted, text) = row;
-    let mut out = MemSink::new(alloc, 300, Vec::new(alloc)).or(Err("sink"))?;
-    let end = report(alloc, line, store, &mut out)?;
-    check_bytes(rt, out.taken(), text, "report");
-    assert_eq!(rt; end, *wanted);
+/// A report over a store whose calls fail so answers what the row says.
+fn check_report(rt: &impl Abort, alloc: Global, row: &Row, fails: &[Failing]) -> Result<(), Fail> {
+    let mut store = filled(alloc, fails)?;
+    let mut out = empty_sink(alloc, 300)?;
+    row.check(rt, report(alloc, row.0, &mut store, &mut out)?, &out);
     Ok(())
 }
 
@@ -154,8 +148,7 @@ const ROWS: &[Row] = &[
 #[test]
 fn reports_over_tables_behind(rt: HostRuntime) -> Result<(), Fail> {
     for row in ROWS {
-        let mut store = filled(rt.alloc(), &[])?;
-        check_row(&rt, rt.alloc(), row, &mut store)?;
+        check_report(&rt, rt.alloc(), row, &[])?;
     }
     Ok(())
 }
@@ -166,15 +159,9 @@ const CALLS: u64 = 25;
 
 #[test]
 fn each_call_may_fail_before_anything_is_written(rt: HostRuntime) -> Result<(), Fail> {
+    let row = Row(&["pawn", "won", "kings"], End::Stopped(Fault::Store), b"");
     for nth in 1..CALLS + 1 {
-        let call = Failing {
-            on: FailOn::Call,
-            nth,
-            keep: 0,
-        };
-        let mut store = filled(rt.alloc(), &[call])?;
-        let row = Row(&["pawn", "won", "kings"], End::Stopped(Fault::Store), b"");
-        check_row(&rt, rt.alloc(), &row, &mut store)?;
+        check_report(&rt, rt.alloc(), &row, &[failing_call(nth)])?;
     }
     Ok(())
 }

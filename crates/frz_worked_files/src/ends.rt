@@ -1,16 +1,12 @@
 //! What the sink takes at each end, over a sink in memory.
+use crate::stores::empty_sink;
 use frz_answer::{End, Fault, Status, finish, say};
 use frz_store::{Fail, FailOn, MemSink};
-use std::alloc::Global;
 use std::test::Fail as TestFail;
-
-fn sink(alloc: Global, room: usize) -> Result<MemSink, TestFail> {
-    Ok(MemSink::new(alloc, room, Vec::new(alloc)).or(Err("sink"))?)
-}
 
 #[test]
 fn a_line_names_the_fault(rt: HostRuntime) -> Result<(), TestFail> {
-    let mut out = sink(rt.alloc(), 40)?;
+    let mut out = empty_sink(rt.alloc(), 40)?;
     assert_eq!(rt; finish(End::Stopped(Fault::Store), &mut out), 8);
     assert_eq!(rt; finish(End::Stopped(Fault::Input), &mut out), 10);
     assert_eq!(rt; finish(End::Stopped(Fault::NoMemory), &mut out), 11);
@@ -23,7 +19,7 @@ fn a_line_names_the_fault(rt: HostRuntime) -> Result<(), TestFail> {
 
 #[test]
 fn a_status_of_its_own_needs_no_line(rt: HostRuntime) -> Result<(), TestFail> {
-    let mut out = sink(rt.alloc(), 20)?;
+    let mut out = empty_sink(rt.alloc(), 20)?;
     let end = say(Status::Outside, b"outside\n", &mut out);
     assert_eq!(rt; finish(end, &mut out), 7);
     assert_eq!(rt; out.taken(), b"outside\n".as_slice());
@@ -32,7 +28,7 @@ fn a_status_of_its_own_needs_no_line(rt: HostRuntime) -> Result<(), TestFail> {
 
 #[test]
 fn a_full_sink_takes_a_part(rt: HostRuntime) -> Result<(), TestFail> {
-    let mut out = sink(rt.alloc(), 3)?;
+    let mut out = empty_sink(rt.alloc(), 3)?;
     assert_eq!(rt; finish(End::Stopped(Fault::NoMemory), &mut out), 9);
     assert_eq!(rt; out.taken(), b"no ".as_slice());
     Ok(())

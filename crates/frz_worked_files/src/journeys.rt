@@ -1,7 +1,7 @@
 //! Journeys from a table into those behind it, all made by hand.
 ghost use Rattle.std.specs.Prelude.{◌≡◌, ◌<◌};
 
-use crate::stores::check_bytes;
+use crate::stores::{check_bytes, empty_sink};
 use frz_atlas::load_atlas;
 use frz_board::Colour;
 use frz_fen::read_fen;
@@ -209,7 +209,7 @@ fn check_row<L: Ledger, R: Abort>(
     steps: &mut Steps<L>,
 ) -> Result<(), Fail> {
     let mut source = MemSource::new(row.input.to_vec(alloc)?, row.fails.to_vec(alloc)?);
-    let mut out = MemSink::new(alloc, 300, Vec::new(alloc)).or(Err("sink"))?;
+    let mut out = empty_sink(alloc, 300)?;
     let arrival = arrival_of(alloc, row, &mut source, &mut out, steps)?;
     check_bytes(rt, out.taken(), row.text, row.fen);
     check_bytes(rt, source.left(), row.left, row.fen);

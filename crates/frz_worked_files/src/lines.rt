@@ -1,7 +1,7 @@
 //! Lines over table files made by hand.
 ghost use Rattle.std.specs.Prelude.{◌≡◌, ◌<◌};
 
-use crate::stores::{check_bytes, table_store};
+use crate::stores::{check_bytes, empty_sink, table_store};
 use frz_board::Colour;
 use frz_fen::read_fen;
 use frz_sets::Value;
@@ -145,7 +145,7 @@ fn check_line<L: Ledger, R: Abort>(
     store: &mut MemStore,
     steps: &mut Steps<L>,
 ) -> Result<(), Fail> {
-    let mut out = MemSink::new(alloc, 1000, Vec::new(alloc)).or(Err("sink"))?;
+    let mut out = empty_sink(alloc, 1000)?;
     let end = end_of(alloc, row.fen, store, &mut out, steps)?;
     check_bytes(rt, out.taken(), row.text, row.fen);
     assert_eq!(rt; end, row.wanted, "{}", row.fen);

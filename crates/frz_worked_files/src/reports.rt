@@ -1,7 +1,7 @@
 //! Reports of table files made by hand.
 ghost use Rattle.std.specs.Prelude.{◌≡◌, ◌<◌};
 
-use crate::stores::{check_bytes, table_store};
+use crate::stores::{check_bytes, empty_sink, table_store};
 use frz_report::{ReportFault, Totals, report};
 use frz_steps::Steps;
 use frz_store::{Fail as Failing, FailOn, MemSink, MemStore};
@@ -205,7 +205,7 @@ fn check_report<L: Ledger, R: Abort>(
     store: &mut MemStore,
     steps: &mut Steps<L>,
 ) -> Result<(), Fail> {
-    let mut out = MemSink::new(alloc, row.room, Vec::new(alloc)).or(Err("sink"))?;
+    let mut out = empty_sink(alloc, row.room)?;
     let end = end_of(alloc, store, &mut out, steps)?;
     check_bytes(rt, out.taken(), row.text, row.rules);
     assert_eq!(rt; end, row.wanted, "{}", row.rules);

@@ -1,7 +1,7 @@
 //! Sessions over table files made by hand.
 ghost use Rattle.std.specs.Prelude.{◌≡◌, ◌<◌};
 
-use crate::stores::{check_bytes, table_store};
+use crate::stores::{check_bytes, empty_sink, table_store};
 use frz_board::Colour;
 use frz_fen::read_fen;
 use frz_game::Wrong;
@@ -237,7 +237,7 @@ fn check_session<L: Ledger, R: Abort>(
     source: &mut MemSource,
     steps: &mut Steps<L>,
 ) -> Result<(), Fail> {
-    let mut out = MemSink::new(alloc, 100_000, Vec::new(alloc)).or(Err("sink"))?;
+    let mut out = empty_sink(alloc, 100_000)?;
     let answer = answer_of(alloc, row.fen, store, source, &mut out, steps)?;
     check_bytes(rt, out.taken(), row.text, row.fen);
     assert_eq!(rt; answer, row.wanted, "{}", row.fen);

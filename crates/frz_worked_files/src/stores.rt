@@ -1,6 +1,7 @@
 //! What tests share: a store in memory that holds the table file of a row, made by hand, looks at
-//! what it holds, and the words of a line.
-use frz_store::{Fail as Failing, MemStore};
+//! what it holds, the words of a line, and rows that say what such a line answers.
+use frz_answer::End;
+use frz_store::{Fail as Failing, FailOn, MemSink, MemStore};
 use std::alloc::Global;
 use std::process::Abort;
 use std::test::Fail;
@@ -34,4 +35,35 @@ pub(crate) fn words_of(alloc: Global, line: &[&str]) -> Result<Vec<String>, Fail
         words.push(String::from_str(alloc, word)?)?;
     }
     Ok(words)
+}
+
+/// The words of a line, its end and its text.
+#[derive(Drop)]
+pub(crate) struct Row(
+    pub(crate) &'static [&'static str],
+    pub(crate) End,
+    pub(crate) &'static [u8],
+);
+
+impl Row {
+    /// The line ended so, and its text is what the sink took.
+    pub(crate) fn check(&self, rt: &impl Abort, end: End, out: &MemSink) {
+        let Row(_, wanted, text) = self;
+        check_bytes(rt, out.taken(), text, "text");
+        assert_eq!(rt; end, *wanted);
+    }
+}
+
+/// An empty sink that takes so many bytes.
+pub(crate) fn empty_sink(alloc: Global, room: usize) -> Result<MemSink, Fail> {
+    Ok(MemSink::new(alloc, room, Vec::new(alloc)).or(Err("sink"))?)
+}
+
+/// This call fails, and keeps nothing.
+pub(crate) fn failing_call(nth: u64) -> Failing {
+    Failing {
+        on: FailOn::Call,
+        nth,
+        keep: 0,
+    }
 }

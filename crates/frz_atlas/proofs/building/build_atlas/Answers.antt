@@ -7,6 +7,7 @@ use Rattle.frz_sets.specs.Views.{RuleLines}
 use Rattle.frz_store.specs.Told.{store_of}
 use Rattle.frz_table.proofs.Lemmas.{read_short}
 use Rattle.frz_chain.specs.FileOn.{loaded_back}
+use Rattle.frz_chain.proofs.Lemmas.{handed_on, refused_as}
 use Rattle.frz_backs.proofs.Lemmas.{loaded_backs}
 use Rattle.frz_atlas.specs.Building.{RefusesToBuild}
 use Rattle.frz_atlas.specs.Causes.{HasAtlasCause}
@@ -36,13 +37,10 @@ returns-in_err-build_over-clause-refused g c =
     let new = store_of g.S.Store c.build_over.new.store in
     let backs = c.in_ok-backs.ensures in
     let over = c.in_err-build_over.ensures in
-    let err : AtlasFault → Result ℕ AtlasFault = λ f. Err f in
-    let p = err_from_is_err_and c.from_residual-in_err-build_over.result
-    c.from_residual-in_err-build_over.ensures.1 in
-    subst (λ (r : Result ℕ AtlasFault). IfErr r
-    (RefusesToBuild c.args.text.now (map string_bytes c.args.behind.now) c.args.name.now old new
-    c.args.steps.now c.build_over.new.steps))
-    (sym (p.1 ∙ ap err p.2))
+    refused_as (RefusesToBuild c.args.text.now (map string_bytes c.args.behind.now)
+    c.args.name.now old new c.args.steps.now c.build_over.new.steps)
+    c.from_residual-in_err-build_over.result c.in_err-build_over.field-0.0
+    c.from_residual-in_err-build_over.ensures.1
     (not_built c.args.text.now (map string_bytes c.args.behind.now) c.args.name.now
     c.in_ok-rules.rules c.in_ok-rules.ensures.exact c.in_ok-backs.backs.items old
     mid new c.args.steps.now c.open_behind.new.steps c.build_over.new.steps backs.quiet backs.cause
@@ -54,10 +52,9 @@ pub returns-in_err-build_over-clause-cause : goal.returns-in_err-build_over-clau
 returns-in_err-build_over-clause-cause g c =
     let old = store_of g.S.Store c.args.store.now in
     let new = store_of g.S.Store c.build_over.new.store in
-    let err : AtlasFault → Result ℕ AtlasFault = λ f. Err f in
-    let p = err_from_is_err_and c.from_residual-in_err-build_over.result
-    c.from_residual-in_err-build_over.ensures.1 in
-    subst (λ (r : Result ℕ AtlasFault). HasAtlasCause r old new) (sym (p.1 ∙ ap err p.2))
+    handed_on (λ (r : Result ℕ AtlasFault). HasAtlasCause r old new)
+    c.from_residual-in_err-build_over.result c.in_err-build_over.field-0.0
+    c.from_residual-in_err-build_over.ensures.1
     (write_cause c.args.name.now c.in_err-build_over.ensures.built.bytes
     c.in_err-build_over.field-0.0 old (store_of g.S.Store c.open_behind.new.store) new
     c.in_ok-backs.ensures.cause c.in_err-build_over.ensures.built.written)

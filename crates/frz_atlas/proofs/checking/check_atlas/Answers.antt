@@ -1,7 +1,6 @@
 use Rattle.std.specs.Prelude.{map}
 use Rattle.std.specs.String.{string_bytes}
 use Rattle.std.proofs.Common.{◌≡◌, ◌∙◌, ℕ, sym, ap, ap₂, subst, Result, Err, IfErr, arith, rules}
-use Rattle.std.proofs.lemmas.Result.{err_from_is_err_and}
 use Rattle.std.proofs.lemmas.Simd.{map-map}
 use Rattle.frz_board.specs.Boards.{Board}
 use Rattle.frz_sets.specs.declared.exit.Value.{Value}
@@ -16,6 +15,7 @@ use Rattle.frz_chain.specs.declared.back.BackTable.{BackTable}
 use Rattle.frz_backs.specs.Links.{backs_of}
 use Rattle.frz_backs.specs.Loaded.{link_loaded}
 use Rattle.frz_backs.specs.Values.{atlas_value}
+use Rattle.frz_chain.proofs.Lemmas.{refused_as}
 use Rattle.frz_backs.proofs.Lemmas.{loaded_backs}
 use Rattle.frz_atlas.specs.Checking.{RefusesAtlas}
 use Rattle.frz_atlas.specs.declared.checking.Checked.{Checked}
@@ -42,11 +42,8 @@ returns-in_err-backs-clause-refused g c =
     let new = store_of g.S.Store c.open_behind.new.store in
     let e = c.in-Ok.ensures in
     let fault = c.in_err-backs.field-0.0 in
-    let err : AtlasFault → Result Checked AtlasFault = λ f. Err f in
-    let p = err_from_is_err_and c.from_residual.result c.from_residual.ensures.1 in
-    subst (λ (r : Result Checked AtlasFault). IfErr r
-    (RefusesAtlas table behind old new c.args.steps.now c.open_behind.new.steps))
-    (sym (p.1 ∙ ap err p.2))
+    refused_as (RefusesAtlas table behind old new c.args.steps.now c.open_behind.new.steps)
+    c.from_residual.result fault c.from_residual.ensures.1
     (back_refused c.in-Ok.opened table behind old mid c.args.steps.now e.may_open
     e.quiet.unwritten.files e.asked e.calls new c.open_behind.new.steps fault
     c.in_err-backs.ensures.refused)
@@ -59,12 +56,8 @@ returns-in_err-sizes-clause-refused g c =
     let mid = store_of g.S.Store c.open_kind.new.store in
     let new = store_of g.S.Store c.open_behind.new.store in
     let e = c.in-Ok.ensures in
-    let err : AtlasFault → Result Checked AtlasFault = λ f. Err f in
-    let p = err_from_is_err_and c.from_residual-in_err-sizes.result
-    c.from_residual-in_err-sizes.ensures.1 in
-    subst (λ (r : Result Checked AtlasFault). IfErr r
-    (RefusesAtlas table behind old new c.args.steps.now c.open_behind.new.steps))
-    (sym (p.1 ∙ ap err p.2))
+    refused_as (RefusesAtlas table behind old new c.args.steps.now c.open_behind.new.steps)
+    c.from_residual-in_err-sizes.result NoMemory c.from_residual-in_err-sizes.ensures.1
     (not_loaded c.in-Ok.opened table behind old mid c.args.steps.now e.may_open
     e.quiet.unwritten.files e.asked e.calls c.in_ok-backs.backs.items new new
     c.open_behind.new.steps c.open_behind.new.steps c.in_ok-backs.ensures.opened

@@ -1,8 +1,8 @@
 use Rattle.std.specs.Prelude.{map}
 use Rattle.std.specs.String.{string_bytes}
 use Rattle.std.proofs.Common.{◌∙◌, sym, ap, subst, Result, Err, IfErr}
-use Rattle.std.proofs.lemmas.Result.{err_from_is_err_and}
 use Rattle.frz_store.specs.Told.{store_of}
+use Rattle.frz_chain.proofs.Lemmas.{refused_as}
 use Rattle.frz_backs.specs.Loaded.{link_loaded}
 use Rattle.frz_atlas.specs.Reading.{RefusesToRead}
 use Rattle.frz_atlas.specs.declared.fault.AtlasFault.{AtlasFault}
@@ -27,10 +27,8 @@ returns-in_err-backs-clause-refused g c =
     let mid = store_of g.S.Store c.open_kind.new.store in
     let new = store_of g.S.Store c.load_behind.new.store in
     let e = c.in-Ok.ensures in
-    let err : AtlasFault → Result LoadedAtlas AtlasFault = λ f. Err f in
-    let p = err_from_is_err_and c.from_residual.result c.from_residual.ensures.1 in
-    subst (λ (r : Result LoadedAtlas AtlasFault). IfErr r (RefusesToRead table behind old new))
-    (sym (p.1 ∙ ap err p.2))
+    refused_as (RefusesToRead table behind old new) c.from_residual.result
+    c.in_err-backs.field-0.0 c.from_residual.ensures.1
     (back_refused c.in-Ok.opened table behind old mid e.may_open e.quiet.unwritten.files e.asked
     e.calls new c.in_err-backs.field-0.0 c.in_err-backs.ensures.refused)
 

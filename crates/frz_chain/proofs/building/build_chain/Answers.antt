@@ -9,6 +9,7 @@ use Rattle.frz_chain.specs.Chains.{RefusesToChain}
 use Rattle.frz_chain.specs.FileOn.{loaded_back}
 use Rattle.frz_chain.specs.declared.fault.ChainFault.{ChainFault}
 use Rattle.frz_chain.proofs.Chained.{built_over_back, not_chained, not_read, write_cause}
+use Rattle.frz_chain.proofs.HandedOn.{handed_on, refused_as}
 use Rattle.frz_chain.proofs.building.build_chain.Goals as goal
 
 pub build_over-requires-clause-text : goal.build_over-requires-clause-text
@@ -32,13 +33,10 @@ returns-in_err-build_over-clause-refused g c =
     let new = store_of g.S.Store c.build_over.new.store in
     let back = c.in_ok-back.ensures in
     let over = c.in_err-build_over.ensures in
-    let err : ChainFault → Result ℕ ChainFault = λ f. Err f in
-    let p = err_from_is_err_and c.from_residual-in_err-build_over.result
-    c.from_residual-in_err-build_over.ensures.1 in
-    subst (λ (r : Result ℕ ChainFault). IfErr r
-    (RefusesToChain c.args.text.now c.args.back.now c.args.name.now old new c.args.steps.now
-    c.build_over.new.steps))
-    (sym (p.1 ∙ ap err p.2))
+    refused_as (RefusesToChain c.args.text.now c.args.back.now c.args.name.now old new
+    c.args.steps.now c.build_over.new.steps)
+    c.from_residual-in_err-build_over.result c.in_err-build_over.field-0.0
+    c.from_residual-in_err-build_over.ensures.1
     (not_chained c.args.text.now c.args.back.now c.args.name.now c.in_ok-rules.rules
     c.in_ok-rules.ensures.exact (loaded_back c.in_ok-back.back) old mid new
     c.args.steps.now c.open_back.new.steps c.build_over.new.steps back.quiet back.cause back.opened
@@ -48,10 +46,9 @@ pub returns-in_err-build_over-clause-cause : goal.returns-in_err-build_over-clau
 returns-in_err-build_over-clause-cause g c =
     let old = store_of g.S.Store c.args.store.now in
     let new = store_of g.S.Store c.build_over.new.store in
-    let err : ChainFault → Result ℕ ChainFault = λ f. Err f in
-    let p = err_from_is_err_and c.from_residual-in_err-build_over.result
-    c.from_residual-in_err-build_over.ensures.1 in
-    subst (λ (r : Result ℕ ChainFault). HasChainCause r old new) (sym (p.1 ∙ ap err p.2))
+    handed_on (λ (r : Result ℕ ChainFault). HasChainCause r old new)
+    c.from_residual-in_err-build_over.result c.in_err-build_over.field-0.0
+    c.from_residual-in_err-build_over.ensures.1
     (write_cause _ _ c.in_err-build_over.field-0.0 old (store_of g.S.Store c.open_back.new.store)
     new c.in_ok-back.ensures.cause c.in_err-build_over.ensures.built.written)
 

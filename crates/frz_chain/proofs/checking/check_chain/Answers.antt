@@ -1,5 +1,4 @@
 use Rattle.std.proofs.Common.{◌∙◌, sym, ap, subst, Result, Err, IfErr, arith, rules}
-use Rattle.std.proofs.lemmas.Result.{err_from_is_err_and}
 use Rattle.frz_store.specs.Told.{StoreFine, store_of}
 use Rattle.frz_table.specs.Opening.{contents_of}
 use Rattle.frz_chain.specs.Chains.{RefusesChain}
@@ -8,6 +7,7 @@ use Rattle.frz_chain.specs.declared.checking.ChainVerdict.{ChainVerdict}
 use Rattle.frz_chain.specs.declared.fault.ChainFault.{ChainFault}
 use Rattle.frz_chain.proofs.Causes.{chain_later}
 use Rattle.frz_chain.proofs.Checked.{back_refused, not_opened, result_told}
+use Rattle.frz_chain.proofs.HandedOn.{refused_as}
 use Rattle.frz_chain.proofs.checking.check_chain.Goals as goal
 
 pub returns-in-Err-clause-refused : goal.returns-in-Err-clause-refused
@@ -29,11 +29,8 @@ returns-in_err-behind-clause-refused g c =
     let new = store_of g.S.Store c.open_back.new.store in
     let e = c.in-Ok.ensures in
     let fault = c.in_err-behind.field-0.0 in
-    let err : ChainFault → Result ChainVerdict ChainFault = λ f. Err f in
-    let p = err_from_is_err_and c.from_residual.result c.from_residual.ensures.1 in
-    subst (λ (r : Result ChainVerdict ChainFault). IfErr r
-    (RefusesChain table back old new c.args.steps.now c.open_back.new.steps))
-    (sym (p.1 ∙ ap err p.2))
+    refused_as (RefusesChain table back old new c.args.steps.now c.open_back.new.steps)
+    c.from_residual.result fault c.from_residual.ensures.1
     (back_refused table back (contents_of c.in-Ok.opened) old mid new c.args.steps.now
     c.open_back.new.steps fault
     e.may_open e.quiet.unwritten.files e.asked e.calls c.in_err-behind.ensures.refused)
