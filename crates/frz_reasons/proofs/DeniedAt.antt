@@ -17,7 +17,7 @@ use Rattle.frz_reasons.specs.Denials.{DeniesWin, wrong, own, other, stalemate, f
 use Rattle.frz_reasons.specs.LocalEntries.{Agrees, Differs, wrong_at}
 use Rattle.frz_reasons.specs.ReasonTexts.{denials_text}
 use Rattle.frz_reasons.specs.TellingDenials.{TellsDenials, TellsOwn}
-use Rattle.frz_reasons.proofs.Codes.{mover_is_either_side, same_side, other_side}
+use Rattle.frz_reasons.proofs.Codes.{mover_is_either_side, other_side, same_side}
 use Rattle.frz_reasons.proofs.DenialsTold.{free_ones, no_answer}
 
 same_mover : (side mover : Colour) → same_colour mover side ≡ true → mover ≡ side

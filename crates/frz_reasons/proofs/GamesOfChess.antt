@@ -29,7 +29,7 @@ use Rattle.frz_reasons.specs.declared.reason.Reason.{Reason}
 use Rattle.frz_reasons.specs.FailingWays.{IsPlayedAt, FailsFrom, wrong, mated, renounced, leaves, goes_on}
 use Rattle.frz_reasons.specs.FailingGames.{IsGameFrom, EndsAt, HasRenounced, position_behind}
 use Rattle.frz_reasons.proofs.Codes.{same_side}
-use Rattle.frz_reasons.proofs.MovePlayed.{played_arm, candidate_is_free_and_coded}
+use Rattle.frz_reasons.proofs.MovePlayed.{candidate_is_free_and_coded, played_arm}
 
 -- who is to move
 mover_of : (b : Bool) (ms : List Step) (check : Bool) (turn mover : Colour)

@@ -17,7 +17,7 @@ use Rattle.frz_arena.proofs.Lemmas.{first_in, at_broken}
 use Rattle.frz_reasons.specs.LocalEntries.{Agrees}
 use Rattle.frz_reasons.specs.FailuresTell.{FailsAt, code_behind, mated, renounced, moves, waits}
 use Rattle.frz_reasons.proofs.Best.{IsOrder, IsBest, best_of}
-use Rattle.frz_reasons.proofs.Codes.{win_no_failure, hold_no_failure, win_itself_no_failure, both_true_of_and, and_true_of_both, not_true_is_false, mover_is_either_side, same_side, other_side}
+use Rattle.frz_reasons.proofs.Codes.{and_true_of_both, both_true_of_and, hold_no_failure, mover_is_either_side, not_true_is_false, other_side, same_side, win_itself_no_failure, win_no_failure}
 
 module _ (arena : Arena Step ℕ Value) (side : Colour) (codes : List ℕ) (number : ℕ) where
   -- the code of an arm, and the local code
