@@ -47,7 +47,7 @@ module _ (text : List ℕ) (rules : RuleLines) (behind : List (List ℕ)) (old n
     within_opened : WithinFinding rules (all_held h.tables) old new before now
     within_opened =
         within_more (all_held h.tables) _ h.within
-            (let same = sizes_sum_to_steps in omega (arith, same)) steps
+        (let same = sizes_sum_to_steps in omega (arith, same)) steps
 
     -- the lines are those of the tables and of the rules
     pub lines_are_found : (lines : List Line) →

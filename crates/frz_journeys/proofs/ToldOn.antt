@@ -104,7 +104,7 @@ module _ (opponent : Opponent) (side : Colour) (before : List BackTable) (table 
         took_on w.1 v.1 source mid left w.4 v.4,
         stays_on old new later w.1 v.1 w.5 v.5,
         λ p has. journey_went_on opponent side before table place start p has old new w.1 w.0 steps
-        now games
+            now games
             number move value w.6 entry onwards next there later v.1 v.0 arrival after v.5 v.6,
       )
 

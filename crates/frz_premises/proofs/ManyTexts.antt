@@ -40,9 +40,10 @@ none_believed_beliefs_hold : (before links : List Link) → believed_over before
 unfolding believed_over BeliefsHoldOver
 none_believed_beliefs_hold before [] none = tt
 none_believed_beliefs_hold before (link ∷ links) none =
-    let parts = both_parts_are_zero _ _ none in
-    (none_holds link.rules before parts.0,
-    none_believed_beliefs_hold (before ++ link ∷ []) links parts.1)
+    let parts = both_parts_are_zero _ _ none in (
+      none_holds link.rules before parts.0,
+      none_believed_beliefs_hold (before ++ link ∷ []) links parts.1,
+    )
 
 -- where no line of the tables is believed, what is believed holds
 pub none_hold : (links : List Link) → believed_in links ≡ 0 → BeliefsHold links

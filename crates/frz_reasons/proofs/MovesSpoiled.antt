@@ -201,6 +201,7 @@ module _ (arena : Arena Step ℕ Value) (side : Colour) (codes : List ℕ) (numb
     fails_by law (Stalemate mover) e =
         absurd (hold_no_failure given (rw e refl) given_code_fails)
     fails_by law (Going mover) e =
-        elim (mover_is_either_side side mover)
-        [ inl m ↦ fails_at_own_move (e ∙ ap Going m)
-        | inr m ↦ fails_at_other_move law (e ∙ ap Going m) ]
+        elim (mover_is_either_side side mover) [
+          | inl m ↦ fails_at_own_move (e ∙ ap Going m)
+          | inr m ↦ fails_at_other_move law (e ∙ ap Going m)
+        ]

@@ -62,7 +62,7 @@ few_read arms (suc more) [] = omega arith
 few_read arms (suc more) (b ∷ bs) =
     elim (cases_Bool (nat_lt MOST_LENGTH (line_length (b ∷ bs)))) [
       | inl t ↦ rw t (let d = few_bytes_dropped (MOST_LENGTH + 1) (b ∷ bs) (omega arith) in
-      omega (arith, d))
+          omega (arith, d))
       | inr f ↦ rw f (
           let short : line_length (b ∷ bs) ≤ MOST_LENGTH = grind (arith, nat_tests, f) in
           few_said (length (b ∷ bs)) more (behind_line (b ∷ bs))

@@ -262,9 +262,11 @@ module _ {arms : List (Arm Step ℕ Value)} {old now : Reader} {source mid : Sou
     hears_fault h =
         heard_with far.refused h far.wrote
         (let a = far.few in let b = h.fewer in omega (arith, a, b)) (λ f e. inl (let x = e in cc))
-        (λ rest may. let later = reads arms now.more (h.bytes ++ rest) in
-        (later, next_line_behind_refused next h.bytes rest later h.stays may refl,
-        h.heard arms rest may))
+        (λ rest may. let later = reads arms now.more (h.bytes ++ rest) in (
+          later,
+          next_line_behind_refused next h.bytes rest later h.stays may refl,
+          h.heard arms rest may,
+        ))
 
     -- the line says a move
     pub hears_reply : {place : ℕ} → place_said arms line ≡ Some place

@@ -72,7 +72,7 @@ never_cut is_start code given node due e cut =
     (if is_start && is_failure code then dues.NoBound else due_on false code node)
     (dues.Wrong given) dues.Cut (sym e ∙ cut)) [
       | inl h ↦ elim (either_is_result (is_start && is_failure code) dues.NoBound
-      (due_on false code node)
+          (due_on false code node)
           dues.Cut h) [ inl n ↦ absurd (cc) | inr d ↦ cut_only_when_late code node d ]
       | inr h ↦ absurd (cc)
     ]

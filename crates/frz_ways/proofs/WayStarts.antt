@@ -211,7 +211,7 @@ module _ (known : Option (List ℕ)) (size : ℕ) (opponent : Opponent) (rules :
           from_start at_it.0 read,
           from_start_may known size at_it.0 read at_it.1 may,
           λ codes same. way_told_from_start codes source left first last bytes text finish before
-          mid now start
+              mid now start
               code is few (ap (λ (l : List ℕ). slice_index l start) (same 0) ∙ at_it.2) fresh took has
               (plays codes (λ k. same (suc k))),
         ),
