@@ -226,8 +226,7 @@ module _ (player : Player) (table : List ℕ) (behind_it : List (List ℕ)) (p :
       answer_here input is at last arrives a e =
           subst (λ (heard_of : List ℕ). IsPlayedAt player table behind_it p heard_of files a) (sym is)
           (by_files whole a
-          (subst (λ b. MatchBool b
-          (IsPlayed player p contents l.bytes l.tables whole files a)
+          (subst (λ b. MatchBool b (IsPlayed player p contents l.bytes l.tables whole files a)
           (a ≡ says (status_of refusals.Outside) (refusal_line refusals.Outside) files))
           (sym (of_member contents.rules.groups p inside))
           (record {
