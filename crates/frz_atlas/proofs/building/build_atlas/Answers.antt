@@ -39,8 +39,7 @@ returns-in_err-build_over-clause-refused g c =
     let over = c.in_err-build_over.ensures in
     refused_as (RefusesToBuild c.args.text.now (map string_bytes c.args.behind.now)
     c.args.name.now old new c.args.steps.now c.build_over.new.steps)
-    c.from_residual-in_err-build_over.result c.in_err-build_over.field-0.0
-    c.from_residual-in_err-build_over.ensures.1
+    c.from_residual-in_err-build_over.result _ c.from_residual-in_err-build_over.ensures.1
     (not_built c.args.text.now (map string_bytes c.args.behind.now) c.args.name.now
     c.in_ok-rules.rules c.in_ok-rules.ensures.exact c.in_ok-backs.backs.items old
     mid new c.args.steps.now c.open_behind.new.steps c.build_over.new.steps backs.quiet backs.cause
@@ -53,8 +52,7 @@ returns-in_err-build_over-clause-cause g c =
     let old = store_of g.S.Store c.args.store.now in
     let new = store_of g.S.Store c.build_over.new.store in
     handed_on (λ (r : Result ℕ AtlasFault). HasAtlasCause r old new)
-    c.from_residual-in_err-build_over.result c.in_err-build_over.field-0.0
-    c.from_residual-in_err-build_over.ensures.1
+    c.from_residual-in_err-build_over.result _ c.from_residual-in_err-build_over.ensures.1
     (write_cause c.args.name.now c.in_err-build_over.ensures.built.bytes
     c.in_err-build_over.field-0.0 old (store_of g.S.Store c.open_behind.new.store) new
     c.in_ok-backs.ensures.cause c.in_err-build_over.ensures.built.written)

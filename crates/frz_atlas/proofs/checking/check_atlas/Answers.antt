@@ -43,7 +43,7 @@ returns-in_err-backs-clause-refused g c =
     let e = c.in-Ok.ensures in
     let fault = c.in_err-backs.field-0.0 in
     refused_as (RefusesAtlas table behind old new c.args.steps.now c.open_behind.new.steps)
-    c.from_residual.result fault c.from_residual.ensures.1
+    c.from_residual.result _ c.from_residual.ensures.1
     (back_refused c.in-Ok.opened table behind old mid c.args.steps.now e.may_open
     e.quiet.unwritten.files e.asked e.calls new c.open_behind.new.steps fault
     c.in_err-backs.ensures.refused)
@@ -57,7 +57,7 @@ returns-in_err-sizes-clause-refused g c =
     let new = store_of g.S.Store c.open_behind.new.store in
     let e = c.in-Ok.ensures in
     refused_as (RefusesAtlas table behind old new c.args.steps.now c.open_behind.new.steps)
-    c.from_residual-in_err-sizes.result NoMemory c.from_residual-in_err-sizes.ensures.1
+    c.from_residual-in_err-sizes.result _ c.from_residual-in_err-sizes.ensures.1
     (not_loaded c.in-Ok.opened table behind old mid c.args.steps.now e.may_open
     e.quiet.unwritten.files e.asked e.calls c.in_ok-backs.backs.items new new
     c.open_behind.new.steps c.open_behind.new.steps c.in_ok-backs.ensures.opened

@@ -27,8 +27,8 @@ returns-in_err-backs-clause-refused g c =
     let mid = store_of g.S.Store c.open_kind.new.store in
     let new = store_of g.S.Store c.load_behind.new.store in
     let e = c.in-Ok.ensures in
-    refused_as (RefusesToRead table behind old new) c.from_residual.result
-    c.in_err-backs.field-0.0 c.from_residual.ensures.1
+    refused_as (RefusesToRead table behind old new) c.from_residual.result _
+    c.from_residual.ensures.1
     (back_refused c.in-Ok.opened table behind old mid e.may_open e.quiet.unwritten.files e.asked
     e.calls new c.in_err-backs.field-0.0 c.in_err-backs.ensures.refused)
 

@@ -35,8 +35,7 @@ returns-in_err-build_over-clause-refused g c =
     let over = c.in_err-build_over.ensures in
     refused_as (RefusesToChain c.args.text.now c.args.back.now c.args.name.now old new
     c.args.steps.now c.build_over.new.steps)
-    c.from_residual-in_err-build_over.result c.in_err-build_over.field-0.0
-    c.from_residual-in_err-build_over.ensures.1
+    c.from_residual-in_err-build_over.result _ c.from_residual-in_err-build_over.ensures.1
     (not_chained c.args.text.now c.args.back.now c.args.name.now c.in_ok-rules.rules
     c.in_ok-rules.ensures.exact (loaded_back c.in_ok-back.back) old mid new
     c.args.steps.now c.open_back.new.steps c.build_over.new.steps back.quiet back.cause back.opened
@@ -47,8 +46,7 @@ returns-in_err-build_over-clause-cause g c =
     let old = store_of g.S.Store c.args.store.now in
     let new = store_of g.S.Store c.build_over.new.store in
     handed_on (λ (r : Result ℕ ChainFault). HasChainCause r old new)
-    c.from_residual-in_err-build_over.result c.in_err-build_over.field-0.0
-    c.from_residual-in_err-build_over.ensures.1
+    c.from_residual-in_err-build_over.result _ c.from_residual-in_err-build_over.ensures.1
     (write_cause _ _ c.in_err-build_over.field-0.0 old (store_of g.S.Store c.open_back.new.store)
     new c.in_ok-back.ensures.cause c.in_err-build_over.ensures.built.written)
 

@@ -30,7 +30,7 @@ returns-in_err-behind-clause-refused g c =
     let e = c.in-Ok.ensures in
     let fault = c.in_err-behind.field-0.0 in
     refused_as (RefusesChain table back old new c.args.steps.now c.open_back.new.steps)
-    c.from_residual.result fault c.from_residual.ensures.1
+    c.from_residual.result _ c.from_residual.ensures.1
     (back_refused table back (contents_of c.in-Ok.opened) old mid new c.args.steps.now
     c.open_back.new.steps fault
     e.may_open e.quiet.unwritten.files e.asked e.calls c.in_err-behind.ensures.refused)
