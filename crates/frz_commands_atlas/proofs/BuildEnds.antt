@@ -13,19 +13,18 @@ use Rattle.frz_store.specs.Writes.{Wrote, WrotePart}
 use Rattle.frz_store.specs.declared.outside.StoreFault.TheVariants as store_faults
 use Rattle.frz_store.proofs.Lemmas.{later_store}
 use Rattle.frz_table.proofs.Lemmas.{fine_after, quiet_after}
-use Rattle.frz_table.specs.Possible.{MayHold}
 use Rattle.frz_build.specs.Building.{writing_calls}
 use Rattle.frz_answer.specs.declared.end.End.{End}
 use Rattle.frz_answer.specs.declared.status.Status.TheVariants as statuses
 use Rattle.frz_answer.specs.Answers.{says}
 use Rattle.frz_answer.specs.Ends.{Ran, Said}
-use Rattle.frz_answer.specs.Jobs.{Costs, WithinCosts}
+use Rattle.frz_answer.specs.Jobs.{WithinCosts}
 use Rattle.frz_answer.specs.Statuses.{OneOf}
 use Rattle.frz_answer.specs.World.{World, world, Agrees, spent}
 use Rattle.frz_answer.proofs.Lemmas.{Begun, Found, fine_store, not_written, quiet_both, wrote_it}
 use Rattle.frz_prelude.specs.Refusals.{status_of}
 use Rattle.frz_prelude.specs.Replies.{built_line}
-use Rattle.frz_prelude.specs.RulesFiles.{GivesText, IsTextRead, if_rules, size_by}
+use Rattle.frz_prelude.specs.RulesFiles.{GivesText, IsTextRead}
 use Rattle.frz_prelude.specs.declared.refused.Refused.{Refused as Refusal}
 use Rattle.frz_prelude.specs.declared.rules_at.RulesText.{RulesText}
 use Rattle.frz_prelude.specs.declared.stop.Stop.{Stop}

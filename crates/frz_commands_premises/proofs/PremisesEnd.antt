@@ -1,23 +1,21 @@
 -- How `premises` ends, by what was read of the rules and found of the tables behind.
-use Rattle.std.proofs.Common.{◌≡◌, refl, sym, ap, subst, ℕ, ◌+◌, ◌*◌, ◌≤◌, ◌∷◌, List, [], All, length, map, Option, Some, Result, Err, Ok, arith, false}
-use Rattle.std.specs.Prelude.{flat_map, sum_by}
+use Rattle.std.proofs.Common.{◌≡◌, refl, sym, subst, ℕ, ◌≤◌, ◌∷◌, List, [], All, length, map, Option, Some, Err, Ok, arith, false}
+use Rattle.std.specs.Prelude.{flat_map}
 use Rattle.std.proofs.lemmas.List.{length-map}
-use Rattle.frz_rules.specs.Text.{rules_of}
 use Rattle.frz_sets.specs.Views.{RuleLines}
 use Rattle.frz_store.specs.Files.{Files}
 use Rattle.frz_store.specs.Outside.{Rose}
 use Rattle.frz_store.specs.Told.{StoreTold, SourceTold, SinkTold, StoreFine, StoreQuiet}
 use Rattle.frz_table.proofs.Lemmas.{fine_after, quiet_after}
-use Rattle.frz_table.specs.Possible.{MayHold}
 use Rattle.frz_answer.specs.declared.end.End.{End}
 use Rattle.frz_answer.specs.declared.status.Status.TheVariants.{Success}
 use Rattle.frz_answer.specs.Ends.{Ran, Said}
-use Rattle.frz_answer.specs.Jobs.{Costs, Never, WithinCosts}
+use Rattle.frz_answer.specs.Jobs.{Never, WithinCosts}
 use Rattle.frz_answer.specs.Statuses.{OneOf}
 use Rattle.frz_answer.specs.World.{World, world, Agrees, spent}
 use Rattle.frz_answer.proofs.Lemmas.{Begun, Found, fine_store, quiet_both, said}
 use Rattle.frz_prelude.specs.Refusals.{status_of}
-use Rattle.frz_prelude.specs.RulesFiles.{GivesText, IsTextRead, asked_of, or_fault, reads_of}
+use Rattle.frz_prelude.specs.RulesFiles.{GivesText, IsTextRead}
 use Rattle.frz_prelude.specs.declared.refused.Refused.{Refused as Refusal}
 use Rattle.frz_prelude.specs.declared.rules_at.RulesText.{RulesText}
 use Rattle.frz_prelude.specs.declared.stop.Stop.{Stop}
@@ -25,8 +23,7 @@ use Rattle.frz_prelude.specs.declared.stop.Stop.TheVariants as stops
 use Rattle.frz_prelude.proofs.Lemmas.{StopsWith, found_where, of_rules, table_own}
 use Rattle.frz_atlas.specs.Behind.{IsRefusedAt}
 use Rattle.frz_atlas.specs.Causes.{HasAtlasCause}
-use Rattle.frz_atlas.specs.Costs.{bytes_of, calls_of, steps_of}
-use Rattle.frz_atlas.specs.Held.{MayHoldAll, all_held}
+use Rattle.frz_atlas.specs.Held.{all_held}
 use Rattle.frz_atlas.specs.Opening.{IsOneRefused}
 use Rattle.frz_atlas.specs.declared.fault.AtlasFault.{AtlasFault}
 use Rattle.frz_atlas.specs.declared.fault.AtlasFault.TheVariants.{Rules, Table, Back, Failed, NoMemory}

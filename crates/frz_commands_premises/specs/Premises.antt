@@ -1,6 +1,6 @@
 -- What `premises RULES BACK ..` answers: what each exit line of the BACKs and of RULES rests on. No
 -- file changes.
-use Rattle.std.specs.Prelude.{◌≡◌, ℕ, ◌+◌, ◌*◌, List, map, sum_by, Option, Some, Result, Ok, Err}
+use Rattle.std.specs.Prelude.{◌≡◌, ℕ, ◌+◌, ◌*◌, List, map, sum_by, Option, Some, Result, Ok}
 use Rattle.frz_sets.specs.Views.{RuleLines}
 use Rattle.frz_rules.specs.Text.{rules_of}
 use Rattle.frz_store.specs.Files.{Files}

@@ -83,7 +83,7 @@ fn counted(next: NextLine, reader: &mut Reader) -> Option<Why>
 
 /// Takes the next line, or tells why there is none. The limit of lines is checked first, then the
 /// end of the input, then the length of the line.
-#[tactic(auto, using(crate::proofs::LinesHeard::seen_before, crate::proofs::LinesHeard::input_failed, crate::proofs::LinesHeard::line_heard))]
+#[tactic(auto, using(crate::proofs::LinesHeard::end_seen_before, crate::proofs::LinesHeard::input_failed, crate::proofs::LinesHeard::line_heard))]
 fn next_line<I: Source>(
     reader: &mut Reader,
     input: &mut I,

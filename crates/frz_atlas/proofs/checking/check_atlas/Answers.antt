@@ -1,6 +1,6 @@
 use Rattle.std.specs.Prelude.{map}
 use Rattle.std.specs.String.{string_bytes}
-use Rattle.std.proofs.Common.{◌≡◌, ◌∙◌, ℕ, sym, ap, ap₂, subst, Result, Err, IfErr, arith, rules}
+use Rattle.std.proofs.Common.{◌≡◌, ◌∙◌, ℕ, sym, ap, ap₂, subst, arith, rules}
 use Rattle.std.proofs.lemmas.Simd.{map-map}
 use Rattle.frz_board.specs.Boards.{Board}
 use Rattle.frz_sets.specs.declared.exit.Value.{Value}
@@ -18,7 +18,6 @@ use Rattle.frz_backs.specs.Values.{atlas_value}
 use Rattle.frz_chain.proofs.Lemmas.{refused_as}
 use Rattle.frz_backs.proofs.Lemmas.{loaded_backs}
 use Rattle.frz_atlas.specs.Checking.{RefusesAtlas}
-use Rattle.frz_atlas.specs.declared.checking.Checked.{Checked}
 use Rattle.frz_atlas.specs.declared.fault.AtlasFault.{AtlasFault}
 use Rattle.frz_atlas.proofs.AtlasChecked.{atlas_checked, back_refused, not_loaded, not_opened}
 use Rattle.frz_atlas.proofs.checking.check_atlas.Goals as goal

@@ -1,12 +1,11 @@
 use Rattle.std.specs.Prelude.{map}
 use Rattle.std.specs.String.{string_bytes}
-use Rattle.std.proofs.Common.{◌∙◌, sym, ap, subst, Result, Err, IfErr}
+use Rattle.std.proofs.Common.{sym, subst}
 use Rattle.frz_store.specs.Told.{store_of}
 use Rattle.frz_chain.proofs.Lemmas.{refused_as}
 use Rattle.frz_backs.specs.Loaded.{link_loaded}
 use Rattle.frz_atlas.specs.Reading.{RefusesToRead}
 use Rattle.frz_atlas.specs.declared.fault.AtlasFault.{AtlasFault}
-use Rattle.frz_atlas.specs.declared.reading.LoadedAtlas.{LoadedAtlas}
 use Rattle.frz_atlas.proofs.AtlasLoaded.{atlas_loaded, back_refused, not_loaded, not_opened}
 use Rattle.frz_atlas.proofs.reading.load_atlas.Goals as goal
 

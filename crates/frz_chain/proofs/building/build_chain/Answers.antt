@@ -1,4 +1,4 @@
-use Rattle.std.proofs.Common.{◌∙◌, ◌≤◌, ℕ, length, sym, ap, subst, Result, Err, IfErr, arith}
+use Rattle.std.proofs.Common.{◌≤◌, ℕ, length, ap, Result, Err, arith}
 use Rattle.std.proofs.lemmas.Result.{err_from_is_err_and}
 use Rattle.frz_rules.specs.declared.fault.RulesError.{RulesError}
 use Rattle.frz_sets.specs.Views.{RuleLines}

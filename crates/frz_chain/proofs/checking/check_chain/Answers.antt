@@ -1,4 +1,4 @@
-use Rattle.std.proofs.Common.{◌∙◌, sym, ap, subst, Result, Err, IfErr, arith, rules}
+use Rattle.std.proofs.Common.{◌∙◌, sym, subst, arith, rules}
 use Rattle.frz_store.specs.Told.{StoreFine, store_of}
 use Rattle.frz_table.specs.Opening.{contents_of}
 use Rattle.frz_chain.specs.Chains.{RefusesChain}
