@@ -1,5 +1,5 @@
 -- How `report` ends, and that it has one answer.
-use Rattle.std.proofs.Common.{◌≡◌, inl, inr, refl, sym, ap, subst, ◌∙◌, ℕ, ◌+◌, ◌*◌, ◌≤◌, List, [], ◌++◌, length, Option, Some, Result, Ok, Err, arith}
+use Rattle.std.proofs.Common.{◌≡◌, inl, inr, refl, sym, ap, subst, ◌∙◌, ℕ, ◌+◌, ◌*◌, ◌≤◌, List, [], length, Option, Some, Result, Ok, Err, arith}
 use Rattle.std.specs.Option.{unwrap_or}
 use Rattle.frz_exits.specs.Books.{value_by}
 use Rattle.frz_store.specs.Files.{Files}
