@@ -10,7 +10,7 @@ use Rattle.frz_build.specs.Building.{writing_calls}
 use Rattle.frz_chain.specs.ExactBacks.{if_exact, is_exact}
 use Rattle.frz_chain.specs.FileOn.{loaded_back}
 use Rattle.frz_chain.proofs.Lemmas.{all_if_exact}
-use Rattle.frz_prelude.specs.RulesFiles.{or_fault, rules_held}
+use Rattle.frz_prelude.specs.RulesFiles.{or_fault, rules_held, size_by}
 use Rattle.frz_prelude.specs.declared.refused.Refused.{Refused}
 use Rattle.frz_commands_chain.specs.Backs.{IsBackIn}
 use Rattle.frz_commands_chain.specs.Chaining.{chain_costs, chaining_at, chaining_by, made, writing_by}
