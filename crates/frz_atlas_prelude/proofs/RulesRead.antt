@@ -5,7 +5,8 @@ use Rattle.frz_sets.specs.Views.{RuleLines}
 use Rattle.frz_store.specs.Files.{Files}
 use Rattle.frz_store.specs.Told.{StoreQuiet, StoreTold}
 use Rattle.frz_table.specs.Possible.{MayHold}
-use Rattle.frz_answer.specs.Jobs.{Costs, Spent, WithinCosts}
+use Rattle.frz_answer.specs.Jobs.{Costs, WithinCosts}
+use Rattle.frz_answer.specs.World.{Spent}
 use Rattle.frz_prelude.specs.RulesFiles.{IsTextRead, asked_of, or_fault, reads_of, rules_held}
 use Rattle.frz_prelude.specs.declared.refused.Refused.{Refused as Refusal}
 use Rattle.frz_prelude.specs.declared.rules_at.RulesText.{RulesText}
