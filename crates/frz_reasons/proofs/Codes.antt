@@ -19,6 +19,9 @@ win_itself_no_failure c w f = grind (arith, nat_tests)
 pub failure_least : (c : ℕ) → is_failure c ≡ true → 3 ≤ c
 failure_least c f = grind (arith, nat_tests)
 
+pub failure_has_one_before : (c read : ℕ) → read ≡ c → is_failure c ≡ true → 2 ≤ read
+failure_has_one_before c read e f = let least = failure_least c f in omega arith
+
 pub both_true_of_and : (a b : Bool) → (a && b) ≡ true → (a ≡ true) × (b ≡ true)
 both_true_of_and true true e = (refl, refl)
 both_true_of_and true false e = absurd (cc)

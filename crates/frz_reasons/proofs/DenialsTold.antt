@@ -1,9 +1,9 @@
 -- How the denials of a hold are told, move by move.
-use Rattle.std.proofs.Common.{◌≡◌, ◌≤◌, ◌+◌, ◌-◌, ◌++◌, ℕ, suc, true, false, List, [], ◌∷◌, Option, Some, None, map, length, take, drop, refl, sym, subst, ap, ◌∙◌, get_or, Result, Ok, Err, arith}
+use Rattle.std.proofs.Common.{◌≡◌, ◌≤◌, ◌<◌, ◌+◌, ◌-◌, ◌++◌, ℕ, suc, true, false, List, [], ◌∷◌, Option, Some, None, map, length, take, drop, refl, sym, subst, ap, ◌∙◌, get_or, Result, Ok, Err, arith}
 use Rattle.std.specs.Prelude.{filter, is_none, IfOk}
 use Rattle.std.specs.List.{All, prefix_len}
 use Rattle.std.specs.Result.{IsErr}
-use Rattle.std.proofs.lemmas.List.{take_rest}
+use Rattle.std.proofs.lemmas.List.{length-take, take_rest}
 use Rattle.std.proofs.lemmas.List.Elements.{All-drop, All-take}
 use Rattle.frz_board.specs.declared.man.Colour.{Colour}
 use Rattle.frz_board.specs.Moving.{Step}
@@ -34,6 +34,37 @@ pub rest_within : (size : ℕ) (arms : List (Arm Step ℕ Value))
 rest_within size arms each =
     All-take (λ (a : Arm Step ℕ Value). IsWithin size a.next) (length arms - 1) (drop 1 arms)
     (All-drop (λ (a : Arm Step ℕ Value). IsWithin size a.next) 1 arms each)
+
+pub rest_is_shorter : (arms : List (Arm Step ℕ Value)) (t : ℕ) → 1 ≤ length arms
+    → length arms ≡ t → length (take (length arms - 1) (drop 1 arms)) < t
+rest_is_shorter arms t some same =
+    let taken = length-take (length arms - 1) (drop 1 arms) in omega arith
+
+pub first_within : (size : ℕ) (arms : List (Arm Step ℕ Value)) (a : Arm Step ℕ Value)
+    → 1 ≤ length arms → a ≡ get_or arms 0 a → All (λ a. IsWithin size a.next) arms
+    → IsWithin size a.next
+first_within size arms a some is each = rw is (each 0 a some)
+
+-- one step for the first, and one for each other
+pub steps_of_first : (old new : ℕ) (arms : List (Arm Step ℕ Value)) → 1 ≤ length arms
+    → new ≤ old + 1 → new ≤ old + length arms
+steps_of_first old new arms some step = omega arith
+
+pub steps_of_others : (old new : ℕ) (arms : List (Arm Step ℕ Value)) → 1 ≤ length arms
+    → new ≤ old + length (take (length arms - 1) (drop 1 arms)) → new ≤ old + length arms
+steps_of_others old new arms some few =
+    let fewer = rest_is_shorter arms (length arms) some refl in omega arith
+
+pub steps_of_all : (old mid new : ℕ) (arms : List (Arm Step ℕ Value)) → 1 ≤ length arms
+    → mid ≤ old + 1 → new ≤ mid + length (take (length arms - 1) (drop 1 arms))
+    → new ≤ old + length arms
+steps_of_all old mid new arms some step few =
+    let fewer = rest_is_shorter arms (length arms) some refl in omega arith
+
+pub steps_of_number : (old mid new : ℕ) (arms listed : List (Arm Step ℕ Value)) → mid ≤ old + 1
+    → new ≤ mid + length listed → listed ≡ arms → new ≤ old + 1 + length arms
+steps_of_number old mid new arms listed step few same =
+    let as_long = ap length same in omega arith
 
 -- the text of the opponent's moves that deny a win
 pub other_skipped : (side : Colour) (codes : List ℕ) (arms rest : List (Arm Step ℕ Value))
@@ -86,6 +117,15 @@ module _ (arena : Arena Step ℕ Value) (side : Colour) (codes : List ℕ) where
       → (own_denials arena side codes (a ∷ arms) ≡ [])
       × (first_wrong arena side codes (a ∷ arms) ≡ wrong_behind arena side codes a.next)
   wrong_first a arms wrong = (rw wrong refl, rw wrong refl)
+
+  -- no moves
+  pub own_none : (arms : List (Arm Step ℕ Value)) → length arms < 1 → (out : SinkTold)
+      → TellsOwn arena side codes (free_ones arms) (Ok None) out out
+  own_none [] none out = record {
+    wrote = record { ok = took_nothing out; failed = tt };
+    answers = refl;
+  }
+  own_none (a ∷ arms) none out = absurd (omega arith)
 
   module _ (arms rest : List (Arm Step ℕ Value)) (a : Arm Step ℕ Value) (is : arms ≡ a ∷ rest)
     where

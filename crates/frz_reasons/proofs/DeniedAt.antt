@@ -1,5 +1,6 @@
 -- What is told of a number at which the side holds.
-use Rattle.std.proofs.Common.{◌≡◌, ℕ, inl, inr, true, false, List, [], Option, Some, None, refl, subst, ap, ◌∙◌, Result, Ok}
+use Rattle.std.proofs.Common.{◌≡◌, ℕ, inl, inr, true, false, List, [], Option, Some, None, refl, sym, subst, ap, ◌∙◌, Result, Ok, Bool, slice_index}
+use Rattle.std.specs.Prelude.{if◌then◌else◌}
 use Rattle.std.specs.Result.{IsErr}
 use Rattle.frz_board.specs.declared.man.Colour.{Colour}
 use Rattle.frz_board.specs.Men.{other_of, same_colour}
@@ -10,8 +11,10 @@ use Rattle.frz_store.specs.declared.outside.Failed.{Failed}
 use Rattle.frz_answer.specs.Texts.{TookText, FailedWithin}
 use Rattle.frz_answer.proofs.Lemmas.{took_nothing, gave_up}
 use Rattle.frz_arena.specs.declared.arm.Arm.{Arm}
-use Rattle.frz_arena.specs.declared.node.Node.TheVariants.{Stalemate, Going}
+use Rattle.frz_arena.specs.declared.node.Node.{Node}
+use Rattle.frz_arena.specs.declared.node.Node.TheVariants.{Broken, Mate, Stalemate, Going}
 use Rattle.frz_arena.specs.Arena.{Arena}
+use Rattle.frz_arena.specs.LocalCodes.{node_code, free_codes, all_codes}
 use Rattle.frz_game.specs.declared.wrong.Wrong.{Wrong}
 use Rattle.frz_reasons.specs.Denials.{DeniesWin, wrong, own, other, stalemate, first_wrong, other_denials, own_denials}
 use Rattle.frz_reasons.specs.LocalEntries.{Agrees, Differs, wrong_at}
@@ -32,7 +35,27 @@ other_mover side mover e = elim (mover_is_either_side side mover) [
   | inr m ↦ m
 ]
 
+no_mate_code : (own : Bool) → ◌≡◌ {A = ℕ} 1 (if own then 3 else 2) → ⊥
+no_mate_code true e = cc
+no_mate_code false e = cc
+
 module _ (arena : Arena Step ℕ Value) (side : Colour) (codes : List ℕ) (number : ℕ) where
+  abbrev code_if : Node → ℕ
+  code_if node =
+      node_code side node (free_codes arena side (λ k. slice_index codes k) number)
+      (all_codes arena side (λ k. slice_index codes k) number)
+
+  -- where the side holds is no mate, and the number is not broken
+  pub no_hold_at_mate : (mover : Colour) → Agrees arena side codes number
+      → slice_index codes number ≡ 1 → arena.node number ≡ Mate mover → ⊥
+  no_hold_at_mate mover agrees one mate =
+      no_mate_code (same_colour mover side) (sym one ∙ (agrees ∙ ap code_if mate))
+
+  pub no_hold_at_broken : Agrees arena side codes number → slice_index codes number ≡ 1
+      → arena.node number ≡ Broken → ⊥
+  no_hold_at_broken agrees one broken =
+      let code : ◌≡◌ {A = ℕ} 1 0 = sym one ∙ (agrees ∙ ap code_if broken) in cc
+
   -- its own entry is wrong
   pub denied_wrong : (w : Wrong) → Differs arena side codes number
       → w ≡ wrong_at arena side codes number → (out : SinkTold)

@@ -1,5 +1,5 @@
 -- How long a failing way is, where it leaves the set, and that a table is never wrong.
-use Rattle.std.proofs.Common.{◌≡◌, ◌≤◌, ◌+◌, ◌*◌, ℕ, zero, suc, inl, inr, true, List, length, refl, sym, subst, ap, ◌∙◌, slice_index, arith}
+use Rattle.std.proofs.Common.{◌≡◌, ◌≤◌, ◌+◌, ◌*◌, ◌/◌, ℕ, zero, suc, inl, inr, true, List, length, refl, sym, subst, ap, ◌∙◌, slice_index, arith}
 use Rattle.std.proofs.lemmas.Bool.{cases_lt}
 use Rattle.std.proofs.lemmas.Bool.Decides.{nat_tests}
 use Rattle.std.proofs.lemmas.List.{get_or_past}
@@ -36,6 +36,12 @@ bad_exit lag Bad f = (refl, refl)
 
 failing_code : (n : ℕ) → is_failure (3 + 2 * n) ≡ true
 failing_code n = grind (arith, nat_tests)
+
+-- a step at each number, the codes 2 apart, and one step at the last
+pub few_with_last_step : (old steps new code first : ℕ) → 2 * steps + code ≤ 2 * old + first
+    → is_failure code ≡ true → new ≤ steps + 1 → new ≤ old + first / 2
+few_with_last_step old steps new code first few failing step =
+    let least = failure_least code failing in omega arith
 
 module _ (arena : Arena Step ℕ Value) (side : Colour) (codes : List ℕ) where
   -- the move leaves the set to a value that is bad for the side, and has the code 3

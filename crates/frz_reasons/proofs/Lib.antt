@@ -11,3 +11,4 @@ mod Telling
 mod TurnFound
 mod DenialsTold
 mod DeniedAt
+mod Seen

@@ -8,14 +8,16 @@ use Rattle.frz_board.specs.Men.{other_of, same_colour}
 use Rattle.frz_board.specs.Moving.{Step}
 use Rattle.frz_sets.specs.declared.exit.Value.{Value}
 use Rattle.frz_arena.specs.declared.arm.Arm.{Arm}
-use Rattle.frz_arena.specs.declared.node.Node.TheVariants.{Mate, Going}
+use Rattle.frz_arena.specs.declared.node.Node.TheVariants.{Broken, Mate, Stalemate, Going}
 use Rattle.frz_arena.specs.Arena.{Arena, IsArm}
 use Rattle.frz_arena.specs.Chosen.{is_candidate}
 use Rattle.frz_graph.specs.EntryCodes.{arm_code}
 use Rattle.frz_graph.specs.Finite.{IsFinite}
 use Rattle.frz_graph.proofs.Lemmas.{same_next}
+use Rattle.frz_game.specs.declared.wrong.Wrong as wrongs
+use Rattle.frz_reasons.specs.declared.reason.Reason.TheVariants as reasons
 use Rattle.frz_reasons.specs.declared.reason.Reason.TheVariants.{Mated, Renounced}
-use Rattle.frz_reasons.specs.LocalEntries.{Agrees}
+use Rattle.frz_reasons.specs.LocalEntries.{Agrees, Differs, wrong_at}
 use Rattle.frz_reasons.specs.FailingWays as ways
 use Rattle.frz_reasons.specs.FailingWays.{IsPlayedAt, FailsFrom}
 use Rattle.frz_reasons.specs.FailuresTell.{FailsAt, code_behind, mated, renounced, moves, waits}
@@ -158,3 +160,34 @@ mated_there arena side codes number mover e agrees (moves n a i t less each) =
     absurd (let f = sym e ∙ n in cc)
 mated_there arena side codes number mover e agrees (waits n a i f less each) =
     absurd (let g = sym e ∙ n in cc)
+
+-- a failure is no stalemate
+pub no_failure_at_stalemate : (arena : Arena Step ℕ Value) (side : Colour) (codes : List ℕ)
+    (number : ℕ) (mover : Colour) → arena.node number ≡ Stalemate mover
+    → FailsAt arena side codes number → ⊥
+no_failure_at_stalemate arena side codes number mover e (mated n three) =
+    (let f = sym e ∙ n in cc)
+no_failure_at_stalemate arena side codes number mover e (renounced n three nothing) =
+    (let f = sym e ∙ n in cc)
+no_failure_at_stalemate arena side codes number mover e (moves n a i t less each) =
+    (let f = sym e ∙ n in cc)
+no_failure_at_stalemate arena side codes number mover e (waits n a i f less each) =
+    (let g = sym e ∙ n in cc)
+
+-- nor a broken number
+pub no_failure_at_broken : (arena : Arena Step ℕ Value) (side : Colour) (codes : List ℕ)
+    (number : ℕ) → arena.node number ≡ Broken → FailsAt arena side codes number → ⊥
+no_failure_at_broken arena side codes number e (mated n three) = (let f = sym e ∙ n in cc)
+no_failure_at_broken arena side codes number e (renounced n three nothing) =
+    (let f = sym e ∙ n in cc)
+no_failure_at_broken arena side codes number e (moves n a i t less each) =
+    (let f = sym e ∙ n in cc)
+no_failure_at_broken arena side codes number e (waits n a i f less each) =
+    (let g = sym e ∙ n in cc)
+
+-- a wrong entry ends the way
+pub wrong_there : (arena : Arena Step ℕ Value) (side : Colour) (codes : List ℕ) (number : ℕ)
+    (found : wrongs.Wrong) → Differs arena side codes number
+    → found ≡ wrong_at arena side codes number
+    → FailsFrom arena side codes number [] (reasons.Wrong found)
+wrong_there arena side codes number found differs same = rw same (ways.wrong differs)

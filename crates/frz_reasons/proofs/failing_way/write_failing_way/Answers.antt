@@ -1,6 +1,6 @@
-use Rattle.std.proofs.Common.{arith}
+use Rattle.std.proofs.Common.{arith, slice_index}
 use Rattle.frz_store.specs.Told.{sink_of}
-use Rattle.frz_reasons.proofs.Lengths.{next_failure_is_shorter}
+use Rattle.frz_reasons.proofs.Lengths.{few_with_last_step, next_failure_is_shorter}
 use Rattle.frz_reasons.proofs.OneWay.{way_behind}
 use Rattle.frz_reasons.proofs.MovePlayed.{played_arm, plays_on}
 use Rattle.frz_reasons.proofs.Telling.{goes_so_far, so_far_at_start, told_failed, told_out, told_over}
@@ -92,3 +92,24 @@ plies-smaller g c =
     (plays_on arena side codes number (c.failures_are_spoiled.ensures arena finite.lawful side codes
     number c.plies.invariant.failing played.agrees) arm played) c.in-Inside.is).0 in
     omega (arith, fewer)
+
+pub returns-in-Over-clause-few : goal.returns-in-Over-clause-few
+returns-in-Over-clause-few g c =
+    let codes = g.E.Entries.codes c.args.entries.now c.args.side in
+    few_with_last_step c.args.steps.now c.plies.steps c.take_turn.new.steps
+    (slice_index codes c.plies.number) (slice_index codes c.args.start)
+    c.plies.invariant.few c.plies.invariant.failing c.in-Over.ensures.step
+
+pub returns-in_err-write_move-in-Played-clause-few : goal.returns-in_err-write_move-in-Played-clause-few
+returns-in_err-write_move-in-Played-clause-few g c =
+    let codes = g.E.Entries.codes c.args.entries.now c.args.side in
+    few_with_last_step c.args.steps.now c.plies.steps c.take_turn.new.steps
+    (slice_index codes c.plies.number) (slice_index codes c.args.start)
+    c.plies.invariant.few c.plies.invariant.failing c.in-Played.ensures.step
+
+pub returns-in-Outside-clause-few : goal.returns-in-Outside-clause-few
+returns-in-Outside-clause-few g c =
+    let codes = g.E.Entries.codes c.args.entries.now c.args.side in
+    few_with_last_step c.args.steps.now c.plies.steps c.take_turn.new.steps
+    (slice_index codes c.plies.number) (slice_index codes c.args.start)
+    c.plies.invariant.few c.plies.invariant.failing c.in-Played.ensures.step
