@@ -21,6 +21,7 @@ use Rattle.frz_game.specs.Numbers.{position_at}
 use Rattle.frz_game.specs.declared.wrong.Wrong.{Wrong as WrongEntry}
 use Rattle.frz_answer.specs.declared.end.End.TheVariants.{Done, SinkFault}
 use Rattle.frz_answer.specs.declared.status.Status.{Status}
+use Rattle.frz_answer.specs.declared.status.Status.TheVariants as statuses
 use Rattle.frz_answer.specs.Texts.{FailedWithin, TookText, WroteText}
 use Rattle.frz_answer.proofs.Lemmas.{failed_first, failed_next, took_next, took_nothing, wrote_next}
 use Rattle.frz_prelude.specs.BoundLines.{kept_line}
@@ -182,6 +183,21 @@ module _ (rules : RuleLines) (value : Board → Value) (side : Colour) (codes : 
         wrote = record { ok = took_next bound (took_next h.wrote.ok last); failed = tt };
         answers = refl;
       }
+
+  pub all_told_right : (wrong : Option WrongEntry) → wrong ≡ None → (old first second new : SinkTold)
+      → TookText (kept_line side code) old first → Behind (Ok wrong) first second
+      → TookText (wrong_text wrong) second new → Tells (Ok statuses.Success) old new
+  all_told_right wrong none old first second new bound h last =
+      subst (λ (w : Option WrongEntry). Tells (Ok (status_by w)) old new) none
+      (all_told wrong old first second new bound h last)
+
+  pub all_told_wrong : (wrong : Option WrongEntry) (w : WrongEntry) → wrong ≡ Some w
+      → (old first second new : SinkTold)
+      → TookText (kept_line side code) old first → Behind (Ok wrong) first second
+      → TookText (wrong_text wrong) second new → Tells (Ok statuses.Wrong) old new
+  all_told_wrong wrong w some old first second new bound h last =
+      subst (λ (w : Option WrongEntry). Tells (Ok (status_by w)) old new) some
+      (all_told wrong old first second new bound h last)
 
   -- the sink failed within the line of a wrong entry
   pub last_failed : (e : Failed) (wrong : Option WrongEntry) (old first second new : SinkTold) →

@@ -9,7 +9,7 @@ use Rattle.frz_prelude.specs.BoundLines.{kept_line}
 use Rattle.frz_commands_why.specs.Deciders.{decider_of}
 use Rattle.frz_commands_why.specs.Telling.{TellsWhy}
 use Rattle.frz_commands_why.proofs.OneTelling.{told_there}
-use Rattle.frz_commands_why.proofs.Told.{as_failed, behind_failed, bound_failed, last_failed}
+use Rattle.frz_commands_why.proofs.Told.{all_told_right, all_told_wrong, as_failed, behind_failed, bound_failed, last_failed}
 use Rattle.frz_commands_why.proofs.telling.tell_all.Goals as goal
 
 pub returns-in_err-write_kept_line-clause-told : goal.returns-in_err-write_kept_line-clause-told
@@ -76,3 +76,43 @@ returns-in_err-write_wrong_entry-clause-told g c =
     second new (subst (λ (n : ℕ). TookText (kept_line side n) old first) c.entry.ensures
     c.in_ok-write_kept_line.ensures.ok) c.in_ok-wrong.ensures.told
     c.in_err-write_wrong_entry.ensures.failed)
+
+pub returns-in-None-clause-told : goal.returns-in-None-clause-told
+returns-in-None-clause-told g c =
+    let game = c.args.game.now in
+    let rules = game.rules.now in
+    let value = g.B.ExitBook.value_at game.book.now in
+    let side = c.args.side in
+    let codes = g.E.Entries.codes c.args.entries.now side in
+    let deciding = c.args.deciding.now in
+    let decider = decider_of deciding.numbers.now deciding.rules.now
+    (map loaded_back deciding.backs.now) in
+    let old = sink_of g.O.Sink c.args.out.now in
+    let first = sink_of g.O.Sink c.write_kept_line.new.out in
+    let second = sink_of g.O.Sink c.tell_behind.new.out in
+    let new = sink_of g.O.Sink c.write_wrong_entry.new.out in
+    all_told_right rules value side codes decider c.args.number c.in_ok-wrong.wrong c.in-None.is
+    old first second new
+    (subst (λ (n : ℕ). TookText (kept_line side n) old first) c.entry.ensures
+    c.in_ok-write_kept_line.ensures.ok) c.in_ok-wrong.ensures.told
+    c.in_ok-write_wrong_entry.ensures.ok
+
+pub returns-in-Some-clause-told : goal.returns-in-Some-clause-told
+returns-in-Some-clause-told g c =
+    let game = c.args.game.now in
+    let rules = game.rules.now in
+    let value = g.B.ExitBook.value_at game.book.now in
+    let side = c.args.side in
+    let codes = g.E.Entries.codes c.args.entries.now side in
+    let deciding = c.args.deciding.now in
+    let decider = decider_of deciding.numbers.now deciding.rules.now
+    (map loaded_back deciding.backs.now) in
+    let old = sink_of g.O.Sink c.args.out.now in
+    let first = sink_of g.O.Sink c.write_kept_line.new.out in
+    let second = sink_of g.O.Sink c.tell_behind.new.out in
+    let new = sink_of g.O.Sink c.write_wrong_entry.new.out in
+    all_told_wrong rules value side codes decider c.args.number c.in_ok-wrong.wrong
+    c.in-Some.field-0 c.in-Some.is old first second new
+    (subst (λ (n : ℕ). TookText (kept_line side n) old first) c.entry.ensures
+    c.in_ok-write_kept_line.ensures.ok) c.in_ok-wrong.ensures.told
+    c.in_ok-write_wrong_entry.ensures.ok
