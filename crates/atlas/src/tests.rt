@@ -6,6 +6,7 @@ mod words;
 use crate::run_once;
 use frz_store::{Fail, FailOn, MemSink, MemSource, MemStore, Store};
 use std::alloc::Global;
+use std::fmt::Debug;
 use std::process::Abort;
 use std::test::Fail as TestFail;
 
@@ -49,6 +50,11 @@ fn call(
     Ok(run_once(alloc, &words, store, &mut input, out))
 }
 
+/// The value of the case is the one that is wanted.
+fn expect_equal<T: PartialEq + Debug>(rt: &impl Abort, given: &T, wanted: &T, case: &str) {
+    assert_eq!(rt; given, wanted, "{case}");
+}
+
 /// The words of a call, its status and its text.
 #[derive(Drop)]
 struct Said<'a>(&'a [&'a str], u8, &'a str);
@@ -63,7 +69,12 @@ fn expect_said(
     let Said(line, status, text) = row;
     let mut out = sink(alloc, 200)?;
     let answer = call(alloc, line, store, &mut out)?;
-    assert_eq!(rt; (answer, out.taken()), (*status, text.as_bytes()));
+    expect_equal(
+        rt,
+        &(answer, out.taken()),
+        &(*status, text.as_bytes()),
+        "end",
+    );
     Ok(())
 }
 

@@ -15,6 +15,7 @@ mod tables;
 use crate::run_once;
 use frz_store::{Fail, FailOn, MemSink, MemSource, MemStore, Store};
 use std::alloc::Global;
+use std::fmt::Debug;
 use std::process::Abort;
 use std::test::Fail as TestFail;
 use test_tables::{plain_file, rook, store_with};
@@ -211,9 +212,14 @@ fn call(
     call_with_input(alloc, line, store, &mut input, out)
 }
 
+/// The value of the case is the one that is wanted.
+fn expect_equal<T: PartialEq + Debug>(rt: &impl Abort, given: &T, wanted: &T, case: &str) {
+    assert_eq!(rt; given, wanted, "{case}");
+}
+
 /// A call ended with this status and this text.
 fn expect_ended(rt: &impl Abort, ended: (u8, &[u8]), status: u8, text: &str) {
-    assert_eq!(rt; ended, (status, text.as_bytes()));
+    expect_equal(rt, &ended, &(status, text.as_bytes()), "end");
 }
 
 /// Calls the program over the store and the sink, which is to end so with this text in the sink.
@@ -246,12 +252,13 @@ fn expect_call(
 
 /// The store holds a file of this length under the name, or none.
 fn expect_length(rt: &impl Abort, store: &MemStore, name: &str, length: Option<usize>) {
-    assert_eq!(rt; store.file(name).map(|file| file.len()), length);
+    let given = store.file(name).map(|file| file.len());
+    expect_equal(rt, &given, &length, name);
 }
 
 /// The store holds these bytes under the name, or none.
 fn expect_file(rt: &impl Abort, store: &MemStore, name: &str, bytes: Option<&[u8]>) {
-    assert_eq!(rt; store.file(name), bytes);
+    expect_equal(rt, &store.file(name), &bytes, name);
 }
 
 /// Calls the program over the store, which is to end so, and then holds a file of this length
@@ -322,7 +329,8 @@ fn expect_asking(
 ) -> Result<(), TestFail> {
     let before = store.asked();
     expect_call(rt, alloc, store, line, status, text)?;
-    assert_eq!(rt; store.asked(), before.saturating_add(asked as u64));
+    let due = before.saturating_add(asked as u64);
+    expect_equal(rt, &store.asked(), &due, "asked");
     Ok(())
 }
 

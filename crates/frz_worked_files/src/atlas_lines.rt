@@ -1,6 +1,7 @@
 //! Lines and sessions of the program `atlas`, over tables made by hand.
 ghost use Rattle.std.specs.Prelude.{◌≡◌, ◌<◌};
 
+use crate::expect::expect_equal;
 use crate::stores::{Row, check_bytes, empty_sink, failing_call, words_of};
 use frz_answer::{End, Fault, Status};
 use frz_commands_journeys::{run_line, run_play};
@@ -231,7 +232,7 @@ fn check_reply(rt: &impl Abort, alloc: Global, row: &Reply) -> Result<(), Fail> 
     let end = play(alloc, &line, Some(&mut input), &mut store, &mut out)?;
     check_bytes(rt, out.taken(), text, "play");
     check_bytes(rt, input.left(), left, "left");
-    assert_eq!(rt; end, *wanted);
+    expect_equal(rt, &end, wanted, "end");
     Ok(())
 }
 

@@ -1,6 +1,7 @@
 //! Verdicts on small tables made by hand, as they must be and with an entry altered.
 ghost use Rattle.std.specs.Prelude.{◌≡◌, ◌<◌};
 
+use crate::expect::expect_holds;
 use crate::stores::table_store;
 use frz_board::Colour;
 use frz_check::{Verdict, check_table};
@@ -113,7 +114,7 @@ fn verdicts_on_tables_made_by_hand(rt: HostRuntime) -> Result<(), Fail> {
     let alloc = rt.alloc();
     for Row(rules, codes, wanted) in ROWS {
         let mut store = table_store(alloc, rules, codes, &[])?;
-        assert!(rt; said(alloc, &mut store) == Ok(*wanted), "{codes:?}");
+        expect_holds(&rt, said(alloc, &mut store) == Ok(*wanted), codes);
     }
     Ok(())
 }

@@ -1,5 +1,5 @@
 //! Two files, written out.
-use crate::stores::check_file;
+use crate::stores::{check_bytes, check_file};
 use std::test::Fail;
 use test_tables::{plain_file, store_with, table_file};
 
@@ -7,10 +7,8 @@ use test_tables::{plain_file, store_with, table_file};
 fn writes_numbers_with_the_lowest_byte_first(rt: HostRuntime) -> Result<(), Fail> {
     let alloc = rt.alloc();
     let file = table_file(alloc, b"FREEZERC", b"text", 515, &[1, 16_909_060])?;
-    assert_eq!(rt;
-        file.as_slice(),
-        b"FREEZERC\x04\0\0\0text\x03\x02\0\0\x01\0\0\0\x04\x03\x02\x01".as_slice()
-    );
+    let want = b"FREEZERC\x04\0\0\0text\x03\x02\0\0\x01\0\0\0\x04\x03\x02\x01";
+    check_bytes(&rt, &file, want, "file");
     Ok(())
 }
 

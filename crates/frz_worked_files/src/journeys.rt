@@ -1,6 +1,7 @@
 //! Journeys from a table into those behind it, all made by hand.
 ghost use Rattle.std.specs.Prelude.{◌≡◌, ◌<◌};
 
+use crate::expect::expect_equal;
 use crate::stores::{check_bytes, empty_sink};
 use frz_atlas::load_atlas;
 use frz_board::Colour;
@@ -213,8 +214,8 @@ fn check_row<L: Ledger, R: Abort>(
     let arrival = arrival_of(alloc, row, &mut source, &mut out, steps)?;
     check_bytes(rt, out.taken(), row.text, row.fen);
     check_bytes(rt, source.left(), row.left, row.fen);
-    assert_eq!(rt; arrival.answer.err(), row.fault, "{}", row.fen);
-    assert_eq!(rt; arrival.place, row.place, "{}", row.fen);
+    let given = (arrival.answer.err(), arrival.place);
+    expect_equal(rt, &given, &(row.fault, row.place), row.fen);
     Ok(())
 }
 

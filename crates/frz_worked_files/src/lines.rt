@@ -1,6 +1,7 @@
 //! Lines over table files made by hand.
 ghost use Rattle.std.specs.Prelude.{◌≡◌, ◌<◌};
 
+use crate::expect::expect_equal;
 use crate::stores::{check_bytes, empty_sink, table_store};
 use frz_board::Colour;
 use frz_fen::read_fen;
@@ -148,7 +149,7 @@ fn check_line<L: Ledger, R: Abort>(
     let mut out = empty_sink(alloc, 1000)?;
     let end = end_of(alloc, row.fen, store, &mut out, steps)?;
     check_bytes(rt, out.taken(), row.text, row.fen);
-    assert_eq!(rt; end, row.wanted, "{}", row.fen);
+    expect_equal(rt, &end, &row.wanted, row.fen);
     Ok(())
 }
 

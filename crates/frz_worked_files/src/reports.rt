@@ -1,6 +1,7 @@
 //! Reports of table files made by hand.
 ghost use Rattle.std.specs.Prelude.{◌≡◌, ◌<◌};
 
+use crate::expect::expect_equal;
 use crate::stores::{check_bytes, empty_sink, table_store};
 use frz_report::{ReportFault, Totals, report};
 use frz_steps::Steps;
@@ -208,7 +209,7 @@ fn check_report<L: Ledger, R: Abort>(
     let mut out = empty_sink(alloc, row.room)?;
     let end = end_of(alloc, store, &mut out, steps)?;
     check_bytes(rt, out.taken(), row.text, row.rules);
-    assert_eq!(rt; end, row.wanted, "{}", row.rules);
+    expect_equal(rt, &end, &row.wanted, row.rules);
     Ok(())
 }
 

@@ -1,5 +1,6 @@
 //! What tests share: a store in memory that holds the table file of a row, made by hand, looks at
 //! what it holds, the words of a line, and rows that say what such a line answers.
+use crate::expect::expect_equal;
 use frz_answer::End;
 use frz_store::{Fail as Failing, FailOn, MemSink, MemStore};
 use std::alloc::Global;
@@ -20,12 +21,12 @@ pub(crate) fn table_store(
 
 /// The bytes of this case are those that are wanted.
 pub(crate) fn check_bytes(rt: &impl Abort, given: &[u8], want: &[u8], case: &str) {
-    assert_eq!(rt; given, want, "{case}");
+    expect_equal(rt, &given, &want, case);
 }
 
 /// The store holds this file.
 pub(crate) fn check_file(rt: &impl Abort, store: &MemStore, name: &str, want: &[u8]) {
-    assert_eq!(rt; store.file(name), Some(want));
+    expect_equal(rt, &store.file(name), &Some(want), name);
 }
 
 /// The words of a line, as a command takes them.
@@ -50,7 +51,7 @@ impl Row {
     pub(crate) fn check(&self, rt: &impl Abort, end: End, out: &MemSink) {
         let Row(_, wanted, text) = self;
         check_bytes(rt, out.taken(), text, "text");
-        assert_eq!(rt; end, *wanted);
+        expect_equal(rt, &end, wanted, "end");
     }
 }
 

@@ -1,7 +1,7 @@
 //! Tables that the program builds, beside files made by hand.
 use super::{
     Answered, COUNTED, RULES, Row, expect_all, expect_asking, expect_call, expect_calls,
-    expect_file, expect_front, expect_left, expect_length, fails, no_fails,
+    expect_equal, expect_file, expect_front, expect_left, expect_length, fails, no_fails,
 };
 use frz_store::{FailOn, MemStore};
 use std::alloc::Global;
@@ -62,7 +62,7 @@ fn expect_table(
 ) -> Result<(), TestFail> {
     let Built(rules, size, codes, length, _, _) = built;
     let file = table_file(alloc, b"FREEZER2", rules, *size, codes)?;
-    assert_eq!(rt; file.len(), *length);
+    expect_equal(rt, &file.len(), length, "length");
     expect_file(rt, store, "T", Some(&file));
     Ok(())
 }

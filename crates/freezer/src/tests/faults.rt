@@ -2,8 +2,8 @@
 //! for k bytes, for k from the first until it ends well.
 use super::migrating::former_rooks;
 use super::{
-    CORNER, MATE_IN_ONE, RULES, call_fails, call_with_input, expect_ended, no_fails, rook_file,
-    sink,
+    CORNER, MATE_IN_ONE, RULES, call_fails, call_with_input, expect_ended, expect_equal, no_fails,
+    rook_file, sink,
 };
 use frz_store::{Fail, MemSink, MemSource, MemStore};
 use std::alloc::Global;
@@ -163,7 +163,7 @@ fn expect_refused(
     if ended {
         expect_ended(rt, (status, objects.out.taken()), 0, text);
     } else {
-        assert_eq!(rt; status, 8);
+        expect_equal(rt, &status, &8, "status");
         expect_fault(rt, objects.out.taken(), text, b"store fault\n");
     }
     Ok(ended)
@@ -247,7 +247,7 @@ fn a_sink_takes_the_front_of_each_text(rt: HostRuntime) -> Result<(), TestFail> 
 fn expect_unheard(rt: &impl Abort, alloc: Global, objects: &mut Objects) -> Result<(), TestFail> {
     let Asked(words, text, _) = PLAYED;
     let status = call_over(alloc, words, objects)?;
-    assert_eq!(rt; status, 10);
+    expect_equal(rt, &status, &10, "status");
     expect_fault(rt, objects.out.taken(), text, b"input fault\n");
     Ok(())
 }

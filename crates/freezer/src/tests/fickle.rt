@@ -1,7 +1,7 @@
 //! The program over a store that tells nothing of what it holds and contradicts itself.
 ghost use Rattle.std.specs.Prelude.{None};
 
-use super::{MATE_IN_ONE, RULES, call, expect_taken, rook_file, sink};
+use super::{MATE_IN_ONE, RULES, call, expect_equal, expect_taken, rook_file, sink};
 use frz_store::{Failed, Store, StoreFault};
 use std::alloc::Global;
 use std::process::Abort;
@@ -105,9 +105,12 @@ fn expect_twice(
         asked: 0,
     };
     let first = call_twice(rt, alloc, &mut store, twice)?;
-    assert_eq!(rt;
-        (first, store.calls, store.asked),
-        (twice.status, twice.calls, twice.asked)
+    let given = (first, store.calls, store.asked);
+    expect_equal(
+        rt,
+        &given,
+        &(twice.status, twice.calls, twice.asked),
+        "calls",
     );
     Ok(())
 }

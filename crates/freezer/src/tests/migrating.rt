@@ -1,6 +1,7 @@
 //! Tables of the former format, made by hand from its definition, and what `migrate` makes of them.
 use super::{
-    Answered, expect_call, expect_calls, expect_file, expect_front, expect_length, fails, no_fails,
+    Answered, expect_call, expect_calls, expect_equal, expect_file, expect_front, expect_length,
+    fails, no_fails,
 };
 use frz_store::{Fail, FailOn, MemStore};
 use std::alloc::Global;
@@ -101,7 +102,7 @@ fn expect_today(
     left: Option<usize>,
 ) -> Result<(), TestFail> {
     let today = plain_file(alloc, ROOKS, codes)?;
-    assert_eq!(rt; today.len(), TODAY_LENGTH);
+    expect_equal(rt, &today.len(), &TODAY_LENGTH, "length");
     expect_file(rt, store, "N.t", front(&today, left));
     Ok(())
 }

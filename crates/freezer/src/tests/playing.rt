@@ -2,7 +2,7 @@
 use super::tables::table_store;
 use super::{
     CORNER, DRAWN, MATE_IN_ONE, NEXT_TO_IT, RULES, call_fails, call_with_input, expect_ended,
-    no_fails, repeated, sink,
+    expect_equal, no_fails, repeated, sink,
 };
 use frz_store::{Fail, MemSink, MemSource};
 use std::alloc::Global;
@@ -158,7 +158,7 @@ fn expect_heard(
     let mut out = sink(alloc, room)?;
     let answer = play(alloc, row, input, &mut out)?;
     expect_ended(rt, (answer, out.taken()), *status, text);
-    assert_eq!(rt; input.left(), *left);
+    expect_equal(rt, &input.left(), left, "left");
     Ok(())
 }
 

@@ -1,5 +1,7 @@
 //! Reports of tables, those that the program builds and one made by hand.
-use super::{Answered, RULES, call, expect_calls, expect_ended, fails, no_fails, sink};
+use super::{
+    Answered, RULES, call, expect_calls, expect_ended, expect_equal, fails, no_fails, sink,
+};
 use frz_store::{Fail, FailOn, MemSink, MemStore};
 use std::alloc::Global;
 use std::process::Abort;
@@ -88,7 +90,7 @@ fn finds_a_known_mutual_zugzwang(rt: HostRuntime) -> Result<(), TestFail> {
     let alloc = rt.alloc();
     let mut out = sink(alloc, 20_000)?;
     let status = report(alloc, PAWN, no_fails(alloc), &mut out)?;
-    assert_eq!(rt; status, 0);
+    expect_equal(&rt, &status, &0, "status");
     let text = str::from_utf8(out.taken()).or(Err("text"))?;
     expect_within(&rt, text, " 2k5/8/2KP4/8/8/8/8/8 w - - 0 1\n");
     expect_within(&rt, text, " 4k3/8/3PK3/8/8/8/8/8 w - - 0 1\n");

@@ -1,5 +1,6 @@
 //! Files and headers that are written, whole and up to a fault.
 use super::{BLACK, ROOK, WHITE, joined, rook_file};
+use crate::expect::{expect_equal, expect_holds};
 use crate::stores::check_file;
 use frz_store::{Fail as Failing, FailOn, MemStore, Store, StoreFault};
 use frz_table::{FileKind, write_entries, write_header, write_header_kind};
@@ -32,7 +33,7 @@ fn what_is_written_is_the_file(rt: HostRuntime) -> Result<(), Fail> {
     let alloc = rt.alloc();
     let file = rook_file(alloc)?;
     let mut store = MemStore::new(alloc, Vec::new(alloc));
-    assert_eq!(rt; write_all(&mut store), Ok(()));
+    expect_equal(&rt, &write_all(&mut store), &Ok(()), "written");
     check_file(&rt, &store, "A.t", &file);
     Ok(())
 }
@@ -47,7 +48,7 @@ fn check_front(
 ) -> Result<(), Fail> {
     let on = FailOn::Append;
     let mut store = MemStore::new(alloc, vec![in alloc; Failing { on, nth, keep }]?);
-    assert_eq!(rt; write_all(&mut store), Err(StoreFault::Failed), "{nth}");
+    expect_holds(rt, write_all(&mut store) == Err(StoreFault::Failed), &nth);
     check_file(rt, &store, "A.t", front);
     Ok(())
 }
