@@ -41,7 +41,10 @@ test_examples_compare_bounds_and_premises() {
     is "$status $err" "0 " "the status"
     has "$out" "all as wanted"
     has "$out" "rules, line 5 believed 8/8 b, believed 1"
-    is "$(count 'freezer build')" 2 "texts that are built by freezer: A, and B for C"
+    is "$(grep '^freezer' "$FAKE_LOG" | grep -v query | cut -d ' ' -f 2-)" "build A A.t 
+build B B.t 
+chain D A.t D-on-A.t 
+chaincheck D-on-A.t A.t " "what freezer builds and checks: A and B are checked with D and C"
     is "$(grep '^atlas' "$FAKE_LOG" | cut -d ' ' -f 2-)" "premises B 
 build C C-over-A-B.t A.t B.t 
 check C-over-A-B.t A.t B.t 
