@@ -4,38 +4,12 @@ mod rook;
 mod words;
 
 use crate::run_once;
-use frz_store::{Fail, FailOn, MemSink, MemSource, MemStore, Store};
+use frz_store::{MemSink, MemSource, MemStore, Store};
 use std::alloc::Global;
+use std::fmt::Debug;
 use std::process::Abort;
 use std::test::Fail as TestFail;
-
-fn no_fails(alloc: Global) -> Vec<Fail> {
-    Vec::new(alloc)
-}
-
-/// The nth call fails.
-fn call_fails(alloc: Global, nth: u64) -> Result<Vec<Fail>, TestFail> {
-    let fail = Fail {
-        on: FailOn::Call,
-        nth,
-        keep: 0,
-    };
-    Ok(vec![in alloc; fail]?)
-}
-
-/// A sink that takes so many bytes.
-fn sink(alloc: Global, room: usize) -> Result<MemSink, TestFail> {
-    Ok(MemSink::new(alloc, room, no_fails(alloc)).or(Err("sink"))?)
-}
-
-/// The words of a call.
-fn words_of(alloc: Global, line: &[&str]) -> Result<Vec<String>, TestFail> {
-    let mut words = Vec::new(alloc);
-    for word in line {
-        words.push(String::from_str(alloc, word)?)?;
-    }
-    Ok(words)
-}
+use test_tables::{empty_sink, no_fails, words_of};
 
 /// Calls the program over a store, a sink and an empty input.
 fn call(
@@ -47,6 +21,11 @@ fn call(
     let words = words_of(alloc, line)?;
     let mut input = MemSource::new(Vec::new(alloc), no_fails(alloc));
     Ok(run_once(alloc, &words, store, &mut input, out))
+}
+
+/// The value of the case is the one that is wanted.
+fn expect_equal<T: PartialEq + Debug>(rt: &impl Abort, given: &T, wanted: &T, case: &str) {
+    assert_eq!(rt; given, wanted, "{case}");
 }
 
 /// The words of a call, its status and its text.
@@ -61,9 +40,14 @@ fn expect_said(
     row: &Said<'_>,
 ) -> Result<(), TestFail> {
     let Said(line, status, text) = row;
-    let mut out = sink(alloc, 200)?;
+    let mut out = empty_sink(alloc, 200)?;
     let answer = call(alloc, line, store, &mut out)?;
-    assert_eq!(rt; (answer, out.taken()), (*status, text.as_bytes()));
+    expect_equal(
+        rt,
+        &(answer, out.taken()),
+        &(*status, text.as_bytes()),
+        "end",
+    );
     Ok(())
 }
 

@@ -15,9 +15,10 @@ mod tables;
 use crate::run_once;
 use frz_store::{Fail, FailOn, MemSink, MemSource, MemStore, Store};
 use std::alloc::Global;
+use std::fmt::Debug;
 use std::process::Abort;
 use std::test::Fail as TestFail;
-use test_tables::{plain_file, rook, store_with};
+use test_tables::{call_fails, empty_sink, no_fails, plain_file, rook, store_with, words_of};
 
 const RULES: &[u8] =
     b"freezer 1\ngroup white 1 K:b6\ngroup white 1 R:h1,h8\ngroup black 1 K:a8,b8\n";
@@ -133,23 +134,9 @@ const REFUSED: &[Row] = &[
     Row(RULES, &["sample", "h8"], 2, "words: number\n"),
 ];
 
-fn no_fails(alloc: Global) -> Vec<Fail> {
-    Vec::new(alloc)
-}
-
 /// The nth call of this kind fails, and keeps so many bytes of its piece.
 fn fails(alloc: Global, on: FailOn, nth: u64, keep: u64) -> Result<Vec<Fail>, TestFail> {
     Ok(vec![in alloc; Fail { on, nth, keep }]?)
-}
-
-/// The nth call fails.
-fn call_fails(alloc: Global, nth: u64) -> Result<Vec<Fail>, TestFail> {
-    fails(alloc, FailOn::Call, nth, 0)
-}
-
-/// A sink that takes so many bytes.
-fn sink(alloc: Global, room: usize) -> Result<MemSink, TestFail> {
-    Ok(MemSink::new(alloc, room, no_fails(alloc)).or(Err("sink"))?)
 }
 
 /// A sink whose first call fails and takes so many bytes.
@@ -179,15 +166,6 @@ fn repeated(
     Ok(text)
 }
 
-/// The words of a call.
-fn words_of(alloc: Global, line: &[&str]) -> Result<Vec<String>, TestFail> {
-    let mut words = Vec::new(alloc);
-    for word in line {
-        words.push(String::from_str(alloc, word)?)?;
-    }
-    Ok(words)
-}
-
 /// Calls the program over a store, an input and a sink.
 fn call_with_input(
     alloc: Global,
@@ -211,9 +189,14 @@ fn call(
     call_with_input(alloc, line, store, &mut input, out)
 }
 
+/// The value of the case is the one that is wanted.
+fn expect_equal<T: PartialEq + Debug>(rt: &impl Abort, given: &T, wanted: &T, case: &str) {
+    assert_eq!(rt; given, wanted, "{case}");
+}
+
 /// A call ended with this status and this text.
 fn expect_ended(rt: &impl Abort, ended: (u8, &[u8]), status: u8, text: &str) {
-    assert_eq!(rt; ended, (status, text.as_bytes()));
+    expect_equal(rt, &ended, &(status, text.as_bytes()), "end");
 }
 
 /// Calls the program over the store and the sink, which is to end so with this text in the sink.
@@ -240,18 +223,19 @@ fn expect_call(
     status: u8,
     text: &str,
 ) -> Result<(), TestFail> {
-    let mut out = sink(alloc, 200)?;
+    let mut out = empty_sink(alloc, 200)?;
     expect_taken(rt, alloc, line, store, &mut out, status, text)
 }
 
 /// The store holds a file of this length under the name, or none.
 fn expect_length(rt: &impl Abort, store: &MemStore, name: &str, length: Option<usize>) {
-    assert_eq!(rt; store.file(name).map(|file| file.len()), length);
+    let given = store.file(name).map(|file| file.len());
+    expect_equal(rt, &given, &length, name);
 }
 
 /// The store holds these bytes under the name, or none.
 fn expect_file(rt: &impl Abort, store: &MemStore, name: &str, bytes: Option<&[u8]>) {
-    assert_eq!(rt; store.file(name), bytes);
+    expect_equal(rt, &store.file(name), &bytes, name);
 }
 
 /// Calls the program over the store, which is to end so, and then holds a file of this length
@@ -294,7 +278,7 @@ fn expect_front(
     line: &[&str],
     front: &str,
 ) -> Result<(), TestFail> {
-    let mut out = sink(alloc, front.len())?;
+    let mut out = empty_sink(alloc, front.len())?;
     expect_taken(rt, alloc, line, store, &mut out, 9, front)
 }
 
@@ -322,7 +306,8 @@ fn expect_asking(
 ) -> Result<(), TestFail> {
     let before = store.asked();
     expect_call(rt, alloc, store, line, status, text)?;
-    assert_eq!(rt; store.asked(), before.saturating_add(asked as u64));
+    let due = before.saturating_add(asked as u64);
+    expect_equal(rt, &store.asked(), &due, "asked");
     Ok(())
 }
 

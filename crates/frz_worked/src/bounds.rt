@@ -6,6 +6,7 @@ ghost use Rattle.frz_board.specs.Men.{other_of};
 ghost use Rattle.frz_arena.specs.Arena.{Arena, IsLawful};
 ghost use Rattle.frz_arena.specs.Plies.{WinsWithin};
 
+use crate::expect::expect_equal;
 use frz_arena::laws::plies::one_winner;
 use frz_arena::{Bound, Class, Node, bound_of, code, exit_code, local_code};
 use frz_board::Colour::{Black, White};
@@ -25,10 +26,12 @@ fn a_law_is_called() {
 
 #[test]
 fn codes_stand_for_bounds(rt: HostRuntime) {
-    assert_eq!(rt; [code(Bound::Wins(0)), code(Bound::Fails(2))], [2, 7]);
-    assert_eq!(rt; [bound_of(6), bound_of(0)], [Some(Bound::Wins(2)), None]);
+    let codes = [code(Bound::Wins(0)), code(Bound::Fails(2))];
+    expect_equal(&rt, &codes, &[2, 7], "codes");
+    let bounds = [bound_of(6), bound_of(0)];
+    expect_equal(&rt, &bounds, &[Some(Bound::Wins(2)), None], "bounds");
     let exits = [exit_code(Class::Good, 7), exit_code(Class::Bad, 7)];
-    assert_eq!(rt; exits, [16, 3]);
+    expect_equal(&rt, &exits, &[16, 3], "exits");
 }
 
 #[test]
@@ -40,7 +43,7 @@ fn the_side_is_to_move(rt: HostRuntime) {
         local_code(White, node, &[7, 3], &[4]),
         local_code(White, node, &[], &[4]),
     ];
-    assert_eq!(rt; codes, [6, 1, 9, 3]);
+    expect_equal(&rt, &codes, &[6, 1, 9, 3], "codes");
 }
 
 #[test]
@@ -51,7 +54,7 @@ fn the_opponent_is_to_move(rt: HostRuntime) {
         local_code(White, node, &[], &[4, 1]),
         local_code(White, node, &[4], &[4, 6]),
     ];
-    assert_eq!(rt; codes, [7, 1, 8]);
+    expect_equal(&rt, &codes, &[7, 1, 8], "codes");
 }
 
 #[test]
@@ -62,5 +65,5 @@ fn the_game_is_over(rt: HostRuntime) {
         local_code(White, Node::Mate(White), &[], &[]),
         local_code(White, Node::Stalemate(White), &[], &[]),
     ];
-    assert_eq!(rt; codes, [0, 2, 3, 1]);
+    expect_equal(&rt, &codes, &[0, 2, 3, 1], "codes");
 }

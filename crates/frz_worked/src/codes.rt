@@ -2,6 +2,7 @@
 ghost use Rattle.std.specs.Prelude.{◌≡◌};
 ghost use Rattle.frz_arena.specs.declared.arm.Next.TheVariants.{Inside};
 
+use crate::expect::expect_equal;
 use frz_arena::Node;
 use frz_board::Colour::{Black, White};
 use frz_board::{Move, Square};
@@ -15,7 +16,7 @@ fn exits_have_codes(rt: HostRuntime) {
         exit_code(Value::WhiteWinsIn(7), Black),
         exit_code(Value::BlackHolds, Black),
     ];
-    assert_eq!(rt; codes, [16, 3, 1]);
+    expect_equal(&rt, &codes, &[16, 3, 1], "codes");
 }
 
 /// A move that stays inside, to this number.
@@ -50,7 +51,7 @@ fn numbers_have_local_codes(rt: HostRuntime) {
         local_by(Black, Node::Going(Black), &list, &pair),
         local_by(White, Node::Mate(Black), &list, &pair),
     ];
-    assert_eq!(rt; codes, [8, 7, 8, 9, 2]);
+    expect_equal(&rt, &codes, &[8, 7, 8, 9, 2], "codes");
 }
 
 #[test]
@@ -66,7 +67,7 @@ fn codes_that_were_read_give_local_codes(rt: HostRuntime) {
         local(White, Node::Going(Black), &list, &codes),
         local(White, Node::Stalemate(White), &list, &codes),
     ];
-    assert_eq!(rt; given, [6, 9, 1]);
+    expect_equal(&rt, &given, &[6, 9, 1], "codes");
 }
 
 #[test]

@@ -1,6 +1,7 @@
 //! The moves of numbers.
 ghost use Rattle.std.specs.Prelude.{◌≡◌, ◌<◌};
 
+use crate::expect::{expect_equal, expect_holds};
 use crate::texts::ROOK;
 use frz_board::Colour::Black;
 use frz_exits::RuleBook;
@@ -38,8 +39,9 @@ fn check_number<L: Ledger, R: Abort>(
     steps: &mut Steps<L>,
 ) {
     let mut list = NextList::new();
-    assert_eq!(rt; game.nexts(number, &mut list, steps), node);
-    assert!(rt; are_free_to(list.as_slice(), nexts), "{number}");
+    let given = game.nexts(number, &mut list, steps);
+    expect_equal(rt, &given, &node, "node");
+    expect_holds(rt, are_free_to(list.as_slice(), nexts), &number);
 }
 
 /// A number, its node and where its moves lead.

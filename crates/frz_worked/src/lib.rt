@@ -12,6 +12,8 @@ mod codes;
 #[cfg(test)]
 mod exits;
 #[cfg(test)]
+mod expect;
+#[cfg(test)]
 mod games;
 pub mod laws;
 #[cfg(test)]

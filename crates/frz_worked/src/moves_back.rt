@@ -1,6 +1,7 @@
 //! Moves taken back: worked rows, and the converse of the moves of all numbers.
 ghost use Rattle.std.specs.Prelude.{◌≡◌, ◌<◌};
 
+use crate::expect::expect_holds;
 use crate::numbers::set_of;
 use crate::texts::{BOTH_TARGETS, KNIGHTS, PAWNS, PROMOTING, ROOK, TARGET, THREE};
 use frz_board::{Move, move_text};
@@ -44,7 +45,7 @@ fn check_number<L: Ledger, R: Abort>(
     if set.at(row.1).is_some() {
         unmoves(set, row.1, out, steps);
     }
-    assert!(rt; is_one(out.items(), row), "{}", row.1);
+    expect_holds(rt, is_one(out.items(), row), &row.1);
 }
 
 fn check_row<L: Ledger, R: Abort>(
@@ -156,7 +157,7 @@ fn check_game<L: Ledger, R: Abort>(
     steps: &mut Steps<L>,
 ) -> Result<(), Fail> {
     let (on, back) = count_moves(alloc, game, steps)?;
-    assert!(rt; on == back && on > 0, "{on} on, {back} back: {text}");
+    expect_holds(rt, on == back && on > 0, &(on, back, text));
     Ok(())
 }
 

@@ -6,6 +6,7 @@ ghost use Rattle.frz_index.specs.OldNumbers.{old_size_of};
 ghost use Rattle.frz_sets.specs.Sound.{IsSound};
 
 use crate::boards::position;
+use crate::expect::{expect_equal, expect_holds};
 use crate::texts::{
     BLACK_FIRST, BLOCKED, BOTH_TARGETS, CROWD, KNIGHTS, MIXED, PAWNS, ROOK, ROOKS, TARGET, THREE,
     TWO_GROUPS,
@@ -50,15 +51,15 @@ fn is_at(set: &Set, p: &Position, number: u32) -> bool
 fn check_row(rt: &impl Abort, set: &Set, row: &Row) -> Result<(), Fail> {
     let (number, men, turn, target) = *row;
     let p = position(men, turn, target).ok_or("a position")?;
-    assert!(rt; is_at(set, &p, number), "{number} is {men}");
+    expect_holds(rt, is_at(set, &p, number), &(number, men));
     Ok(())
 }
 
 /// The set has so many numbers, and these of them are broken.
 fn check_broken(rt: &impl Abort, set: &Set, size: u32, broken: &[u32]) {
-    assert_eq!(rt; set.size(), size);
+    expect_equal(rt, &set.size(), &size, "size");
     for number in broken {
-        assert!(rt; set.at(*number).is_none(), "{number} is broken");
+        expect_holds(rt, set.at(*number).is_none(), number);
     }
 }
 
@@ -150,14 +151,14 @@ fn check_old_number(rt: &impl Abort, rules: &Rules, row: &OldRow) -> Result<(), 
 {
     let (men, turn, number) = *row;
     let p = position(men, turn, None).ok_or("a position")?;
-    assert!(rt; old_number(rules, &p) == number, "{men}");
+    expect_equal(rt, &old_number(rules, &p), &number, men);
     Ok(())
 }
 
 #[test]
 fn old_numbers(rt: HostRuntime) -> Result<(), Fail> {
     let rules = read_rules(rt.alloc(), ROOKS.as_bytes())?;
-    assert_eq!(rt; old_size(&rules), 36);
+    expect_equal(&rt, &old_size(&rules), &36, "old size");
     for row in OLD_ROWS {
         check_old_number(&rt, &rules, row)?;
     }
@@ -253,11 +254,11 @@ fn check_numbers(rt: &impl Abort, set: &Set, text: &str, size: u32, positions: u
     let mut found: u32 = 0;
     for i in 0..set.size() {
         if let Some(p) = set.at(i) {
-            assert!(rt; is_numbered(set, &p, i), "{text}: {i}");
+            expect_holds(rt, is_numbered(set, &p, i), &(text, i));
             found = found.saturating_add(1);
         }
     }
-    assert_eq!(rt; (set.size(), found), (size, positions), "{text}");
+    expect_equal(rt, &(set.size(), found), &(size, positions), text);
 }
 
 /// How many positions the set of the text has.

@@ -2,6 +2,7 @@
 ghost use Rattle.std.specs.Prelude.{IfOk};
 ghost use Rattle.frz_sets.specs.Sound.{IsSound};
 
+use crate::expect::expect_equal;
 use frz_rules::{RulesCause, RulesError, RulesFault, read_rules};
 use frz_sets::{Rules, set_size};
 use std::alloc::Global;
@@ -54,7 +55,7 @@ fn read(rt: &impl Abort, alloc: Global, parts: &[&[u8]]) -> Result<Rules, RulesF
 
 fn refused(rt: &impl Abort, alloc: Global, parts: &[&[u8]], line: u32, cause: RulesCause) {
     match read(rt, alloc, parts) {
-        Err(fault) => assert_eq!(rt; fault, RulesFault { line, cause }),
+        Err(fault) => expect_equal(rt, &fault, &RulesFault { line, cause }, "fault"),
         Ok(_) => panic!(rt; "accepted, where {line} {cause:?} is due"),
     }
 }
@@ -77,7 +78,7 @@ fn all_sized(rt: &impl Abort, alloc: Global, rows: &[SetSize]) {
 
 fn sized(rt: &impl Abort, alloc: Global, parts: &[&[u8]], size: u64) {
     match read(rt, alloc, parts) {
-        Ok(rules) => assert_eq!(rt; set_size(&rules), size),
+        Ok(rules) => expect_equal(rt, &set_size(&rules), &size, "size"),
         Err(fault) => panic!(rt; "refused with {fault:?}, where {size} is due"),
     }
 }

@@ -2,6 +2,7 @@
 ghost use Rattle.std.specs.Prelude.{◌≡◌, ◌<◌, length};
 ghost use Rattle.frz_sets.specs.Sound.{IsSound};
 
+use crate::expect::{expect_equal, expect_holds};
 use crate::sweeps::codes_of;
 use crate::ten::Ten;
 use crate::texts::{
@@ -93,7 +94,7 @@ fn solve_by_hand<L: Ledger, R: Abort>(rt: &R, alloc: Global, blank: Blank) -> Re
     for (text, white, black) in BY_HAND {
         let white = (Colour::White, *white);
         let black = (Colour::Black, *black);
-        assert!(rt; gives(alloc, text, white, black, &mut steps)?, "{text}");
+        expect_holds(rt, gives(alloc, text, white, black, &mut steps)?, text);
     }
     Ok(())
 }
@@ -141,7 +142,7 @@ fn check_run<L: Ledger, R: Abort>(
     ensures { length shop.new ≡ 10 }
 {
     shop.run(&Ten::new(), side, steps);
-    assert_eq!(rt; shop.entries(), wanted.as_slice());
+    expect_equal(rt, &shop.entries(), &wanted.as_slice(), "entries");
 }
 
 /// Each run of the one workshop leaves its own side's list, whatever the runs before it left.
@@ -178,7 +179,7 @@ fn agree_on<L: Ledger, R: Abort>(
 {
     let mut steps = Steps::<L>::new(blank);
     for text in texts {
-        assert!(rt; agrees(alloc, text, &mut steps)?, "{text}");
+        expect_holds(rt, agrees(alloc, text, &mut steps)?, text);
     }
     Ok(())
 }

@@ -2,6 +2,7 @@
 ghost use Rattle.std.specs.Prelude.{◌≡◌, ◌<◌};
 ghost use Rattle.frz_sets.specs.Sound.{IsSound};
 
+use crate::expect::expect_equal;
 use crate::texts::{DRAWN_KINGS, FORBIDDEN, LONG_WIN, ROOK, ROOKS, SHORT_ROOK, STALEMATE};
 use frz_board::Colour;
 use frz_exits::RuleBook;
@@ -58,7 +59,7 @@ fn check_row<L: Ledger, R: Abort>(
 ) -> Result<(), Fail> {
     let (text, side, wanted) = *row;
     let codes = codes_of(alloc, text, side, steps)?;
-    assert_eq!(rt; codes.as_slice(), wanted, "{text}");
+    expect_equal(rt, &codes.as_slice(), &wanted, text);
     Ok(())
 }
 

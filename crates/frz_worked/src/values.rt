@@ -1,4 +1,5 @@
 //! Values as each side sees them.
+use crate::expect::{expect_equal, expect_holds};
 use frz_board::Colour::{self, Black, White};
 use frz_exits::{Class, class, lag};
 use frz_sets::Value;
@@ -16,8 +17,8 @@ const CLASSES: &[(Value, Colour, Class)] = &[
 #[test]
 fn values_of_both_sides(rt: HostRuntime) {
     for (value, side, wanted) in CLASSES {
-        assert!(rt; class(*value, *side) == *wanted, "{value:?} for {side:?}");
+        expect_holds(&rt, class(*value, *side) == *wanted, &(*value, *side));
     }
-    assert_eq!(rt; lag(Value::BlackWinsIn(12)), 12);
-    assert_eq!(rt; lag(Value::BlackWins), 0);
+    let lags = [lag(Value::BlackWinsIn(12)), lag(Value::BlackWins)];
+    expect_equal(&rt, &lags, &[12, 0], "lags");
 }

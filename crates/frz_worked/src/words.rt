@@ -1,6 +1,7 @@
 //! Lines, words, numbers and squares, read from texts.
 ghost use Rattle.std.specs.Prelude.{◌<◌, ◌^◌, length};
 
+use crate::expect::expect_equal;
 use frz_words::{Line, Lines, read_number, read_square, read_squares};
 use std::process::Abort;
 
@@ -49,7 +50,7 @@ const NUMBERS: &[Number] = &[
 
 fn check_numbers(rt: &impl Abort) {
     for Number(word, most, number) in NUMBERS {
-        assert_eq!(rt; read_number(word, *most), *number);
+        expect_equal(rt, &read_number(word, *most), number, "number");
     }
 }
 
@@ -80,14 +81,15 @@ fn bits_of(word: &[u8]) -> Option<u64> {
 
 fn check_squares(rt: &impl Abort) {
     for Squares(word, bits) in SQUARES {
-        assert_eq!(rt; bits_of(word), *bits);
+        expect_equal(rt, &bits_of(word), bits, "squares");
     }
 }
 
 #[test]
 fn numbers_and_squares(rt: HostRuntime) {
     check_numbers(&rt);
-    assert_eq!(rt; [read_square(b"h8"), read_square(b"i1")], [Some(63), None]);
+    let squares = [read_square(b"h8"), read_square(b"i1")];
+    expect_equal(&rt, &squares, &[Some(63), None], "squares");
     check_squares(&rt);
 }
 
@@ -98,7 +100,7 @@ fn line_of_sixty_thousand_words(rt: HostRuntime) {
         text[2 * i + 1] = b' ';
     }
     let line = Lines::new(&text).next().expect(&rt, "a line");
-    assert_eq!(rt; line.count(), 60_000);
+    expect_equal(&rt, &line.count(), &60_000, "words");
     assert!(rt; line.word(60_000) == Some(b"x".as_slice()));
     assert!(rt; line.word(60_001).is_none());
 }

@@ -1,7 +1,8 @@
 //! Lines and sessions of the program `atlas`, over tables made by hand.
 ghost use Rattle.std.specs.Prelude.{◌≡◌, ◌<◌};
 
-use crate::stores::{Row, check_bytes, empty_sink, failing_call, words_of};
+use crate::expect::expect_equal;
+use crate::stores::{Row, check_bytes};
 use frz_answer::{End, Fault, Status};
 use frz_commands_journeys::{run_line, run_play};
 use frz_steps::Steps;
@@ -11,7 +12,7 @@ use std::marker::Brand;
 use std::process::Abort;
 use std::sync::ledger::{Blank, Ledger};
 use std::test::Fail;
-use test_tables::{plain_file, rook, store_with, table_file};
+use test_tables::{call_fails, empty_sink, plain_file, rook, store_with, table_file, words_of};
 
 /// The rook's ending before the rook has captured a knight on h1: 4 numbers.
 const KNIGHT: &str = "freezer 1
@@ -167,7 +168,7 @@ fn each_call_of_a_line_may_fail_before_anything_is_written(rt: HostRuntime) -> R
         b"",
     );
     for nth in 1..CALLS + 1 {
-        check_line(&rt, rt.alloc(), &row, &[failing_call(nth)])?;
+        check_line(&rt, rt.alloc(), &row, &call_fails(rt.alloc(), nth)?)?;
     }
     Ok(())
 }
@@ -231,7 +232,7 @@ fn check_reply(rt: &impl Abort, alloc: Global, row: &Reply) -> Result<(), Fail> 
     let end = play(alloc, &line, Some(&mut input), &mut store, &mut out)?;
     check_bytes(rt, out.taken(), text, "play");
     check_bytes(rt, input.left(), left, "left");
-    assert_eq!(rt; end, *wanted);
+    expect_equal(rt, &end, wanted, "end");
     Ok(())
 }
 

@@ -1,7 +1,7 @@
 //! Reports of a pawn's table over tables of what it leaves behind, all made by hand.
 ghost use Rattle.std.specs.Prelude.{◌≡◌, ◌<◌};
 
-use crate::stores::{Row, empty_sink, failing_call, words_of};
+use crate::stores::Row;
 use frz_answer::{End, Fault, Status};
 use frz_commands_atlas::run_report;
 use frz_steps::Steps;
@@ -11,7 +11,7 @@ use std::marker::Brand;
 use std::process::Abort;
 use std::sync::ledger::{Blank, Ledger};
 use std::test::Fail;
-use test_tables::{plain_file, store_with, table_file};
+use test_tables::{call_fails, empty_sink, plain_file, store_with, table_file, words_of};
 
 /// A pawn that may promote on h8, or be captured by the black king. 4 numbers; with the king on g8
 /// and White to move there is no position.
@@ -161,7 +161,7 @@ const CALLS: u64 = 25;
 fn each_call_may_fail_before_anything_is_written(rt: HostRuntime) -> Result<(), Fail> {
     let row = Row(&["pawn", "won", "kings"], End::Stopped(Fault::Store), b"");
     for nth in 1..CALLS + 1 {
-        check_report(&rt, rt.alloc(), &row, &[failing_call(nth)])?;
+        check_report(&rt, rt.alloc(), &row, &call_fails(rt.alloc(), nth)?)?;
     }
     Ok(())
 }

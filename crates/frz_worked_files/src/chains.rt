@@ -1,6 +1,7 @@
 //! A rook's table over that of the position which its king leaves it for, made by hand.
 ghost use Rattle.std.specs.Prelude.{◌≡◌, ◌<◌, ◌≢◌};
 
+use crate::expect::{expect_equal, expect_holds};
 use frz_board::Colour;
 use frz_chain::{ChainFault, ChainVerdict, build_chain, check_chain, pair_value};
 use frz_game::Wrong;
@@ -134,7 +135,8 @@ const PAIRS: &[(u32, u32, Value)] = &[
 #[test]
 fn pairs_of_codes(rt: HostRuntime) {
     for (white, black, value) in PAIRS {
-        assert_eq!(rt; pair_value(*white, *black), *value, "{white} {black}");
+        let given = (*white, *black, pair_value(*white, *black));
+        expect_equal(rt, &given, &(*white, *black, *value), "a pair");
     }
 }
 
@@ -146,7 +148,7 @@ fn expect_build(
     text: &str,
     wanted: Result<u32, ChainFault>,
 ) {
-    assert!(rt; build(alloc, store, text.as_bytes()) == wanted, "{text}");
+    expect_holds(rt, build(alloc, store, text.as_bytes()) == wanted, &text);
 }
 
 /// A text, and the table that is built of it over that of NEXT.
@@ -163,7 +165,7 @@ fn built_over_the_next_table(rt: HostRuntime) -> Result<(), Fail> {
     for Building(text, due) in BUILT {
         let mut store = store_of(rt.alloc(), &[], "due", due, &Some(BACK))?;
         expect_build(&rt, rt.alloc(), &mut store, text, Ok(8));
-        assert!(rt; store.file("T") == store.file("due"), "{text}");
+        expect_holds(&rt, store.file("T") == store.file("due"), text);
     }
     Ok(())
 }
@@ -224,7 +226,7 @@ const CHECKED: &[Checking] = &[
 fn checks_of_a_table_over_a_back_table(rt: HostRuntime) -> Result<(), Fail> {
     for Checking(table, back, wanted) in CHECKED {
         let mut store = store_of(rt.alloc(), &[], "T", table, back)?;
-        assert!(rt; said(rt.alloc(), &mut store) == *wanted, "{wanted:?}");
+        expect_holds(&rt, said(rt.alloc(), &mut store) == *wanted, wanted);
     }
     Ok(())
 }
@@ -246,10 +248,8 @@ fn each_call_of_the_store_may_fail(rt: HostRuntime) -> Result<(), Fail> {
             keep: 0,
         };
         let mut store = store_of(rt.alloc(), &[call], "T", &Some(CHAINED), &Some(BACK))?;
-        assert!(rt;
-            said(rt.alloc(), &mut store) == Err(ChainFault::Failed),
-            "{nth}"
-        );
+        let given = said(rt.alloc(), &mut store);
+        expect_holds(&rt, given == Err(ChainFault::Failed), &nth);
     }
     Ok(())
 }

@@ -1,6 +1,7 @@
 //! Verdicts on small tables made by hand, as they must be and with an entry altered.
 ghost use Rattle.std.specs.Prelude.{◌≡◌, ◌<◌};
 
+use crate::expect::expect_holds;
 use crate::stores::table_store;
 use frz_board::Colour;
 use frz_check::{Verdict, check_table};
@@ -13,7 +14,7 @@ use std::marker::Brand;
 use std::process::Abort;
 use std::sync::ledger::{Blank, Ledger};
 use std::test::Fail;
-use test_tables::{plain_file, rook, store_with};
+use test_tables::{no_fails, plain_file, rook, store_with};
 
 /// The rook's ending with the rook where it gives no mate: 8 numbers.
 const NEAR_ROOK: &str = "freezer 1
@@ -113,7 +114,7 @@ fn verdicts_on_tables_made_by_hand(rt: HostRuntime) -> Result<(), Fail> {
     let alloc = rt.alloc();
     for Row(rules, codes, wanted) in ROWS {
         let mut store = table_store(alloc, rules, codes, &[])?;
-        assert!(rt; said(alloc, &mut store) == Ok(*wanted), "{codes:?}");
+        expect_holds(&rt, said(alloc, &mut store) == Ok(*wanted), codes);
     }
     Ok(())
 }
@@ -121,7 +122,7 @@ fn verdicts_on_tables_made_by_hand(rt: HostRuntime) -> Result<(), Fail> {
 #[test]
 fn a_missing_file_is_refused(rt: HostRuntime) {
     let alloc = rt.alloc();
-    let mut empty = MemStore::new(alloc, Vec::new(alloc));
+    let mut empty = MemStore::new(alloc, no_fails(alloc));
     assert!(rt; said(alloc, &mut empty) == Err(TableFault::Missing));
 }
 
@@ -130,7 +131,7 @@ fn a_file_that_is_cut_is_refused(rt: HostRuntime) -> Result<(), Fail> {
     let alloc = rt.alloc();
     let file = plain_file(alloc, rook::TEXT.as_bytes(), &rook::CODES)?;
     let front = file.get(..152).ok_or("front")?;
-    let mut cut = store_with(alloc, Vec::new(alloc), &[("A.t", front)])?;
+    let mut cut = store_with(alloc, no_fails(alloc), &[("A.t", front)])?;
     assert!(rt; said(alloc, &mut cut) == Err(TableFault::Truncated(152, 153)));
     Ok(())
 }

@@ -1,7 +1,8 @@
 //! Journeys from a table into those behind it, all made by hand.
 ghost use Rattle.std.specs.Prelude.{◌≡◌, ◌<◌};
 
-use crate::stores::{check_bytes, empty_sink};
+use crate::expect::expect_equal;
+use crate::stores::check_bytes;
 use frz_atlas::load_atlas;
 use frz_board::Colour;
 use frz_fen::read_fen;
@@ -15,7 +16,7 @@ use std::marker::Brand;
 use std::process::Abort;
 use std::sync::ledger::{Blank, Ledger};
 use std::test::Fail;
-use test_tables::{plain_file, rook, store_with, table_file};
+use test_tables::{empty_sink, no_fails, plain_file, rook, store_with, table_file, words_of};
 
 /// The rook's ending before the rook has captured a knight on h1: 4 numbers.
 const KNIGHT: &str = "freezer 1
@@ -172,15 +173,7 @@ fn filled(alloc: Global, row: &Row<'_>) -> Result<MemStore, Fail> {
         ("next", &next),
         ("rook", &rook),
     ];
-    store_with(alloc, Vec::new(alloc), &files)
-}
-
-/// The names of the tables behind the knight's.
-fn names_behind(alloc: Global) -> Result<Vec<String>, Fail> {
-    let mut names = Vec::new(alloc);
-    names.push(String::from_str(alloc, "next")?)?;
-    names.push(String::from_str(alloc, "rook")?)?;
-    Ok(names)
+    store_with(alloc, no_fails(alloc), &files)
 }
 
 /// Where White's journey from the position of a row arrives.
@@ -193,7 +186,7 @@ fn arrival_of<L: Ledger>(
 ) -> Result<Arrival, Fail> {
     let p = read_fen(row.fen.as_bytes())?;
     let mut store = filled(alloc, row)?;
-    let behind = names_behind(alloc)?;
+    let behind = words_of(alloc, &["next", "rook"])?;
     let loaded = load_atlas(alloc, &mut store, "knight", &behind).or(Err("tables"))?;
     let player = Player {
         side: Colour::White,
@@ -213,8 +206,8 @@ fn check_row<L: Ledger, R: Abort>(
     let arrival = arrival_of(alloc, row, &mut source, &mut out, steps)?;
     check_bytes(rt, out.taken(), row.text, row.fen);
     check_bytes(rt, source.left(), row.left, row.fen);
-    assert_eq!(rt; arrival.answer.err(), row.fault, "{}", row.fen);
-    assert_eq!(rt; arrival.place, row.place, "{}", row.fen);
+    let given = (arrival.answer.err(), arrival.place);
+    expect_equal(rt, &given, &(row.fault, row.place), row.fen);
     Ok(())
 }
 

@@ -13,6 +13,8 @@ mod checks;
 #[cfg(test)]
 mod ends;
 #[cfg(test)]
+mod expect;
+#[cfg(test)]
 mod handmade;
 #[cfg(test)]
 mod journeys;

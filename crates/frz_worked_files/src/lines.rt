@@ -1,7 +1,8 @@
 //! Lines over table files made by hand.
 ghost use Rattle.std.specs.Prelude.{◌≡◌, ◌<◌};
 
-use crate::stores::{check_bytes, empty_sink, table_store};
+use crate::expect::expect_equal;
+use crate::stores::{check_bytes, table_store};
 use frz_board::Colour;
 use frz_fen::read_fen;
 use frz_sets::Value;
@@ -14,7 +15,7 @@ use std::marker::Brand;
 use std::process::Abort;
 use std::sync::ledger::{Blank, Ledger};
 use std::test::Fail;
-use test_tables::rook;
+use test_tables::{empty_sink, rook};
 
 /// The rook's ending with an exit that White wins within 7 plies: 8 numbers.
 const ROOK_AND_EXIT: &str = "freezer 1
@@ -148,7 +149,7 @@ fn check_line<L: Ledger, R: Abort>(
     let mut out = empty_sink(alloc, 1000)?;
     let end = end_of(alloc, row.fen, store, &mut out, steps)?;
     check_bytes(rt, out.taken(), row.text, row.fen);
-    assert_eq!(rt; end, row.wanted, "{}", row.fen);
+    expect_equal(rt, &end, &row.wanted, row.fen);
     Ok(())
 }
 

@@ -1,4 +1,5 @@
 //! Each object on its happy path and with its calls failing in turn, and each real adapter once.
+use crate::expect::{expect_equal, expect_holds};
 use frz_store::{
     DiskStore, Fail, FailOn, Failed, InputSource, MemSink, MemSource, MemStore, OutputSink, Sink,
     Source, Store, StoreFault, SureSink, SureSource, SureStore,
@@ -8,6 +9,7 @@ use std::io::{Error, ErrorKind, Read, Write};
 use std::process::Abort;
 use std::test::Fail as TestFail;
 use std::{fs, io};
+use test_tables::no_fails;
 
 /// Whether the store gives exactly these bytes, of which there are at most 8, for the name.
 fn holds<S: Store>(store: &mut S, name: &str, want: &[u8]) -> Result<bool, StoreFault> {
@@ -68,20 +70,20 @@ fn expect_kept<S: Store>(rt: &impl Abort, store: &mut S) {
 }
 
 fn expect_bytes(rt: &impl Abort, held: Option<&[u8]>, want: Option<&[u8]>) {
-    assert!(rt; held == want, "{held:?}, not {want:?}");
+    expect_equal(rt, &held, &want, "bytes");
 }
 
 #[test]
 fn stores_give_back_what_was_written(rt: HostRuntime) -> Result<(), TestFail> {
     let alloc = rt.alloc();
-    let mut told = told_store(alloc, Vec::new(alloc), "other", b"xyz")?;
+    let mut told = told_store(alloc, no_fails(alloc), "other", b"xyz")?;
     let mut sure = sure_store(alloc)?;
     expect_kept(&rt, &mut told);
     expect_bytes(&rt, told.file("other"), Some(b"xyz"));
     expect_bytes(&rt, told.file("absent"), None);
     expect_kept(&rt, &mut sure);
     expect_bytes(&rt, sure.file("made"), Some(b"abcd"));
-    assert_eq!(rt; [told.asked(), sure.asked()], [4, 4]);
+    expect_equal(&rt, &[told.asked(), sure.asked()], &[4, 4], "asked");
     Ok(())
 }
 
@@ -109,8 +111,8 @@ fn failing_store(alloc: Global, row: &Failing<'_>) -> Result<MemStore, TestFail>
 fn expect_failed(rt: &impl Abort, store: &mut MemStore, row: &Failing<'_>) {
     let Failing(on, nth, want) = *row;
     let answer = write_and_read(store);
-    assert!(rt; answer == Err(StoreFault::Failed), "{on:?} {nth}");
-    assert!(rt; store.file("made") == Some(want), "{on:?} {nth}");
+    expect_holds(rt, answer == Err(StoreFault::Failed), &(on, nth));
+    expect_holds(rt, store.file("made") == Some(want), &(on, nth));
 }
 
 #[test]
@@ -129,7 +131,7 @@ fn read_three<'a, S: Source>(source: &mut S, into: &'a mut [u8; 3]) -> Result<&'
 
 fn expect_reads<S: Source>(rt: &impl Abort, source: &mut S, wants: &[Result<&[u8], Failed>]) {
     for want in wants {
-        assert!(rt; read_three(source, &mut [0; 3]) == *want, "{want:?}");
+        expect_holds(rt, read_three(source, &mut [0; 3]) == *want, want);
     }
 }
 
@@ -157,7 +159,7 @@ struct Piece<'a>(&'a [u8], Result<(), Failed>);
 
 fn expect_writes<S: Sink>(rt: &impl Abort, sink: &mut S, pieces: &[Piece<'_>]) {
     for Piece(piece, want) in pieces {
-        assert!(rt; sink.write(piece) == *want, "{piece:?}");
+        expect_holds(rt, sink.write(piece) == *want, piece);
     }
 }
 
@@ -204,16 +206,13 @@ const NO_FILES: &[&str] = &[".", "made/inside", "ma\0de"];
 
 fn expect_sizes<S: Store>(rt: &impl Abort, store: &mut S, sizes: &[Size<'_>]) {
     for Size(name, want) in sizes {
-        assert!(rt; store.size(name) == *want, "{name:?}");
+        expect_holds(rt, store.size(name) == *want, name);
     }
 }
 
 fn expect_not_created<S: Store>(rt: &impl Abort, store: &mut S) {
     for name in NO_FILES {
-        assert!(rt;
-            store.create(name, 1) == Err(StoreFault::Failed),
-            "{name:?}"
-        );
+        expect_holds(rt, store.create(name, 1) == Err(StoreFault::Failed), name);
     }
 }
 

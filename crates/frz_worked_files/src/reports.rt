@@ -1,7 +1,8 @@
 //! Reports of table files made by hand.
 ghost use Rattle.std.specs.Prelude.{◌≡◌, ◌<◌};
 
-use crate::stores::{check_bytes, empty_sink, table_store};
+use crate::expect::expect_equal;
+use crate::stores::{check_bytes, table_store};
 use frz_report::{ReportFault, Totals, report};
 use frz_steps::Steps;
 use frz_store::{Fail as Failing, FailOn, MemSink, MemStore};
@@ -11,7 +12,7 @@ use std::marker::Brand;
 use std::process::Abort;
 use std::sync::ledger::{Blank, Ledger};
 use std::test::Fail;
-use test_tables::rook;
+use test_tables::{empty_sink, rook};
 
 /// The rook's ending where White may move nothing.
 const FORBIDDEN: &str = "freezer 1
@@ -208,7 +209,7 @@ fn check_report<L: Ledger, R: Abort>(
     let mut out = empty_sink(alloc, row.room)?;
     let end = end_of(alloc, store, &mut out, steps)?;
     check_bytes(rt, out.taken(), row.text, row.rules);
-    assert_eq!(rt; end, row.wanted, "{}", row.rules);
+    expect_equal(rt, &end, &row.wanted, row.rules);
     Ok(())
 }
 

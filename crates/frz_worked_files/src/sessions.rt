@@ -1,7 +1,8 @@
 //! Sessions over table files made by hand.
 ghost use Rattle.std.specs.Prelude.{◌≡◌, ◌<◌};
 
-use crate::stores::{check_bytes, empty_sink, table_store};
+use crate::expect::expect_equal;
+use crate::stores::{check_bytes, table_store};
 use frz_board::Colour;
 use frz_fen::read_fen;
 use frz_game::Wrong;
@@ -17,7 +18,7 @@ use std::marker::Brand;
 use std::process::Abort;
 use std::sync::ledger::{Blank, Ledger};
 use std::test::Fail;
-use test_tables::rook;
+use test_tables::{empty_sink, rook};
 
 /// Two kings far apart, and all is drawn outside: 8 numbers.
 const KINGS: &str = "freezer 1
@@ -240,7 +241,7 @@ fn check_session<L: Ledger, R: Abort>(
     let mut out = empty_sink(alloc, 100_000)?;
     let answer = answer_of(alloc, row.fen, store, source, &mut out, steps)?;
     check_bytes(rt, out.taken(), row.text, row.fen);
-    assert_eq!(rt; answer, row.wanted, "{}", row.fen);
+    expect_equal(rt, &answer, &row.wanted, row.fen);
     Ok(())
 }
 
@@ -323,8 +324,8 @@ fn play_rows<L: Ledger, R: Abort>(rt: &R, alloc: Global, blank: Blank) -> Result
 
 #[test]
 fn sessions_over_files_made_by_hand(rt: HostRuntime) -> Result<(), Fail> {
-    assert_eq!(&rt; MOST_LINES, 10_000);
-    assert_eq!(&rt; MOST_LENGTH, 64);
+    expect_equal(&rt, &MOST_LINES, &10_000, "lines");
+    expect_equal(&rt, &MOST_LENGTH, &64, "length");
     let blank = Blank::new(1);
     play_rows::<Brand, _>(&rt, rt.alloc(), blank)
 }

@@ -1,7 +1,8 @@
 //! What tests share: a store in memory that holds the table file of a row, made by hand, looks at
-//! what it holds, the words of a line, and rows that say what such a line answers.
+//! what it holds, and rows that say what a line of words answers.
+use crate::expect::expect_equal;
 use frz_answer::End;
-use frz_store::{Fail as Failing, FailOn, MemSink, MemStore};
+use frz_store::{Fail as Failing, MemSink, MemStore};
 use std::alloc::Global;
 use std::process::Abort;
 use std::test::Fail;
@@ -20,21 +21,12 @@ pub(crate) fn table_store(
 
 /// The bytes of this case are those that are wanted.
 pub(crate) fn check_bytes(rt: &impl Abort, given: &[u8], want: &[u8], case: &str) {
-    assert_eq!(rt; given, want, "{case}");
+    expect_equal(rt, &given, &want, case);
 }
 
 /// The store holds this file.
 pub(crate) fn check_file(rt: &impl Abort, store: &MemStore, name: &str, want: &[u8]) {
-    assert_eq!(rt; store.file(name), Some(want));
-}
-
-/// The words of a line, as a command takes them.
-pub(crate) fn words_of(alloc: Global, line: &[&str]) -> Result<Vec<String>, Fail> {
-    let mut words = Vec::new(alloc);
-    for word in line {
-        words.push(String::from_str(alloc, word)?)?;
-    }
-    Ok(words)
+    expect_equal(rt, &store.file(name), &Some(want), name);
 }
 
 /// The words of a line, its end and its text.
@@ -50,20 +42,6 @@ impl Row {
     pub(crate) fn check(&self, rt: &impl Abort, end: End, out: &MemSink) {
         let Row(_, wanted, text) = self;
         check_bytes(rt, out.taken(), text, "text");
-        assert_eq!(rt; end, *wanted);
-    }
-}
-
-/// An empty sink that takes so many bytes.
-pub(crate) fn empty_sink(alloc: Global, room: usize) -> Result<MemSink, Fail> {
-    Ok(MemSink::new(alloc, room, Vec::new(alloc)).or(Err("sink"))?)
-}
-
-/// This call fails, and keeps nothing.
-pub(crate) fn failing_call(nth: u64) -> Failing {
-    Failing {
-        on: FailOn::Call,
-        nth,
-        keep: 0,
+        expect_equal(rt, &end, wanted, "end");
     }
 }

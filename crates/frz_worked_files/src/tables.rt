@@ -2,6 +2,7 @@
 mod former;
 mod writing;
 
+use crate::expect::expect_equal;
 use crate::stores::table_store;
 use byteorder::{ByteOrder, LittleEndian};
 use frz_board::Colour;
@@ -11,7 +12,7 @@ use frz_table::{FileKind, TableFault, TableFile, open_kind, open_table};
 use std::alloc::Global;
 use std::process::Abort;
 use std::test::Fail;
-use test_tables::{rook, store_with};
+use test_tables::{no_fails, rook, store_with};
 
 /// A king and a rook against a king in the corner: 73 bytes, 8 numbers.
 const ROOK: &[u8] = b"freezer 1
@@ -65,7 +66,7 @@ fn rook_file(alloc: Global) -> Result<Vec<u8>, Fail> {
 
 /// Why a file is refused as a table of the kind.
 fn refusal(alloc: Global, file: &[u8], kind: FileKind) -> Result<Option<TableFault>, Fail> {
-    let mut store = store_with(alloc, Vec::new(alloc), &[("A.t", file)])?;
+    let mut store = store_with(alloc, no_fails(alloc), &[("A.t", file)])?;
     Ok(open_kind(alloc, &mut store, "A.t", kind).err())
 }
 
@@ -169,7 +170,8 @@ const OPENED: &[Opened] = &[
 fn files_are_opened_as_their_own_kind_alone(rt: HostRuntime) -> Result<(), Fail> {
     for Opened(magic, length, text, size, kind, refused) in OPENED {
         let file = file_of(rt.alloc(), magic, *length, text, *size)?;
-        assert_eq!(rt; refusal(rt.alloc(), &file, *kind)?, *refused);
+        let given = refusal(rt.alloc(), &file, *kind)?;
+        expect_equal(&rt, &given, refused, "refusal");
     }
     Ok(())
 }
@@ -177,9 +179,9 @@ fn files_are_opened_as_their_own_kind_alone(rt: HostRuntime) -> Result<(), Fail>
 #[test]
 fn a_name_that_is_not_there_is_missing(rt: HostRuntime) -> Result<(), Fail> {
     let alloc = rt.alloc();
-    let mut store = store_with(alloc, Vec::new(alloc), &[("A.t", b"")])?;
+    let mut store = store_with(alloc, no_fails(alloc), &[("A.t", b"")])?;
     let given = open_table(alloc, &mut store, "B.t").err();
-    assert_eq!(rt; given, Some(TableFault::Missing));
+    expect_equal(&rt, &given, &Some(TableFault::Missing), "refusal");
     Ok(())
 }
 
@@ -197,12 +199,13 @@ fn refused_of(left: u64) -> Option<TableFault> {
 #[test]
 fn files_that_are_cut_or_go_on_are_refused(rt: HostRuntime) -> Result<(), Fail> {
     let mut file = rook_file(rt.alloc())?;
-    assert_eq!(rt; file.len(), 153);
+    expect_equal(&rt, &file.len(), &153, "length");
     file.push(0)?;
     for left in 0..=154 {
         let front = file.get(..left).ok_or("front")?;
         let given = refusal(rt.alloc(), front, FileKind::Plain)?;
-        assert_eq!(rt; given, refused_of(left as u64), "{left}");
+        let due = refused_of(left as u64);
+        expect_equal(&rt, &(left, given), &(left, due), "refusal");
     }
     Ok(())
 }
@@ -214,10 +217,15 @@ fn rook_store(alloc: Global, fails: &[Failing]) -> Result<MemStore, Fail> {
 
 /// The table is that of the rook's file.
 fn check_rook(rt: &impl Abort, table: &TableFile) {
-    assert_eq!(rt; table.name(), "A.t");
-    assert_eq!(rt; table.text(), ROOK);
+    expect_equal(rt, &table.name(), &"A.t", "name");
+    expect_equal(rt, &table.text(), &ROOK, "text");
     let sizes = (table.rules().groups.len(), table.set().size());
-    assert_eq!(rt; (table.kind(), sizes), (FileKind::Plain, (3, 8)));
+    expect_equal(
+        rt,
+        &(table.kind(), sizes),
+        &(FileKind::Plain, (3, 8)),
+        "sizes",
+    );
 }
 
 fn check_opened(rt: &impl Abort, alloc: Global, store: &mut MemStore) -> Result<(), TableFault> {
@@ -230,7 +238,7 @@ fn check_opened(rt: &impl Abort, alloc: Global, store: &mut MemStore) -> Result<
 fn a_file_made_by_hand_is_opened(rt: HostRuntime) -> Result<(), Fail> {
     let mut store = rook_store(rt.alloc(), &[])?;
     check_opened(&rt, rt.alloc(), &mut store)?;
-    assert_eq!(rt; store.asked(), 16 + 73);
+    expect_equal(&rt, &store.asked(), &(16 + 73), "asked");
     Ok(())
 }
 
@@ -260,7 +268,8 @@ fn entries_are_read_in_their_places(rt: HostRuntime) -> Result<(), Fail> {
     for (side, i, code) in ENTRIES {
         let mut store = rook_store(rt.alloc(), &[])?;
         let given = read_entry(rt.alloc(), &mut store, *side, *i);
-        assert_eq!(rt; (given, store.asked()), (Ok(*code), 16 + 73 + 4));
+        let asked = store.asked();
+        expect_equal(&rt, &(given, asked), &(Ok(*code), 16 + 73 + 4), "entry");
     }
     Ok(())
 }
@@ -273,8 +282,8 @@ fn load_both(alloc: Global, store: &mut MemStore) -> Result<(Vec<u32>, Vec<u32>)
 
 fn check_loaded(rt: &impl Abort, alloc: Global, store: &mut MemStore) -> Result<(), TableFault> {
     let (white, black) = load_both(alloc, store)?;
-    assert_eq!(rt; white.as_slice(), WHITE.as_slice());
-    assert_eq!(rt; black.as_slice(), BLACK.as_slice());
+    expect_equal(rt, &white.as_slice(), &WHITE.as_slice(), "white");
+    expect_equal(rt, &black.as_slice(), &BLACK.as_slice(), "black");
     Ok(())
 }
 
@@ -282,7 +291,7 @@ fn check_loaded(rt: &impl Abort, alloc: Global, store: &mut MemStore) -> Result<
 fn a_file_made_by_hand_is_loaded(rt: HostRuntime) -> Result<(), Fail> {
     let mut store = rook_store(rt.alloc(), &[])?;
     check_loaded(&rt, rt.alloc(), &mut store)?;
-    assert_eq!(rt; store.asked(), 16 + 73 + 64);
+    expect_equal(&rt, &store.asked(), &(16 + 73 + 64), "asked");
     Ok(())
 }
 
@@ -315,7 +324,7 @@ fn each_failing_call_is_told(rt: HostRuntime) -> Result<(), Fail> {
         };
         let mut store = failing_store(rt.alloc(), nth)?;
         let read = read_all(rt.alloc(), &mut store);
-        assert_eq!(rt; read, due, "{nth}");
+        expect_equal(&rt, &(nth, read), &(nth, due), "read");
     }
     Ok(())
 }

@@ -2,7 +2,7 @@
 //! and that of its first three on both.
 ghost use Rattle.std.specs.Prelude.{◌≡◌, ◌<◌};
 
-use super::{Said, call, expect_all, expect_said, no_fails, sink, words_of};
+use super::{Said, call, expect_all, expect_equal, expect_said};
 use frz_commands_table::build;
 use frz_prelude::Reply;
 use frz_steps::Steps;
@@ -11,7 +11,7 @@ use std::alloc::Global;
 use std::marker::Brand;
 use std::sync::ledger::{Blank, Ledger};
 use std::test::Fail as TestFail;
-use test_tables::store_with;
+use test_tables::{empty_sink, no_fails, store_with, words_of};
 
 /// A promotion on a8, where Black's king may take at once, and the bare kings: 3,840 numbers.
 const BACK: &[u8] = b"freezer 1
@@ -105,12 +105,12 @@ fn refuses_a_table_before_the_one_that_it_leans_on(rt: HostRuntime) -> Result<()
     let alloc = rt.alloc();
     let mut store = filled(alloc)?;
     expect_said(&rt, alloc, &mut store, &BUILD_HIGH)?;
-    let mut out = sink(alloc, 200)?;
+    let mut out = empty_sink(alloc, 200)?;
     let line = ["build", "low", "low.t", "high.t", "back.t"];
     let status = call(alloc, &line, &mut store, &mut out)?;
-    assert_eq!(rt; status, 6);
-    assert_eq!(rt; out.taken().starts_with(b"back 1: wrong "), true);
-    assert_eq!(rt; store.file("low.t"), None);
+    let named = out.taken().starts_with(b"back 1: wrong ");
+    expect_equal(&rt, &(status, named), &(6, true), "end");
+    expect_equal(&rt, &store.file("low.t"), &None, "low.t");
     Ok(())
 }
 

@@ -1,9 +1,9 @@
 //! Tables of a rook, made by hand, over one that tells what is outside.
-use super::{Said, call, call_fails, expect_all, expect_said, no_fails, sink};
+use super::{Said, call, expect_all, expect_equal, expect_said};
 use frz_store::{Fail, MemStore};
 use std::alloc::Global;
 use std::test::Fail as TestFail;
-use test_tables::{plain_file, rook, store_with, table_file};
+use test_tables::{call_fails, empty_sink, no_fails, plain_file, rook, store_with, table_file};
 
 /// The black king has gone to c8, and White wins everywhere outside.
 const NEXT: &str = "freezer 1
@@ -130,7 +130,7 @@ fn refuses_to_build(rt: HostRuntime) -> Result<(), TestFail> {
     let alloc = rt.alloc();
     let mut store = filled(alloc, no_fails(alloc))?;
     expect_all(&rt, alloc, &mut store, NOT_BUILT)?;
-    assert_eq!(rt; store.file("T"), None);
+    expect_equal(&rt, &store.file("T"), &None, "T");
     Ok(())
 }
 
@@ -141,7 +141,7 @@ fn builds_a_table(rt: HostRuntime) -> Result<(), TestFail> {
     let row = Said(&["build", "A", "T", "N.t"], 0, "built 8\n");
     expect_said(&rt, alloc, &mut store, &row)?;
     let due = rook_over_next(alloc)?;
-    assert_eq!(rt; store.file("T"), Some(due.as_slice()));
+    expect_equal(&rt, &store.file("T"), &Some(due.as_slice()), "T");
     Ok(())
 }
 
@@ -155,7 +155,7 @@ fn each_call_of_the_store_may_fail(rt: HostRuntime) -> Result<(), TestFail> {
         let row = Said(&["build", "A", "T", "N.t"], 8, "store fault\n");
         let mut store = filled(alloc, call_fails(alloc, nth)?)?;
         expect_said(&rt, alloc, &mut store, &row)?;
-        assert_eq!(rt; store.file("T"), None);
+        expect_equal(&rt, &store.file("T"), &None, "T");
     }
     Ok(())
 }
@@ -164,8 +164,8 @@ fn each_call_of_the_store_may_fail(rt: HostRuntime) -> Result<(), TestFail> {
 fn a_full_sink_cuts_the_line(rt: HostRuntime) -> Result<(), TestFail> {
     let alloc = rt.alloc();
     let mut store = filled(alloc, no_fails(alloc))?;
-    let mut out = sink(alloc, 3)?;
+    let mut out = empty_sink(alloc, 3)?;
     let status = call(alloc, &["check", "over.t", "N.t"], &mut store, &mut out)?;
-    assert_eq!(rt; (status, out.taken()), (9, b"exa".as_slice()));
+    expect_equal(&rt, &(status, out.taken()), &(9, b"exa".as_slice()), "end");
     Ok(())
 }

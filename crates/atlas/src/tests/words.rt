@@ -1,7 +1,8 @@
 //! Words that are refused before anything is read.
-use super::{Said, call_fails, expect_all};
+use super::{Said, expect_all};
 use frz_store::MemStore;
 use std::test::Fail as TestFail;
+use test_tables::call_fails;
 
 const REFUSED: &[Said] = &[
     Said(&[], 2, "words: command\n"),

@@ -1,13 +1,13 @@
 //! Tables that the program builds, beside files made by hand.
 use super::{
     Answered, COUNTED, RULES, Row, expect_all, expect_asking, expect_call, expect_calls,
-    expect_file, expect_front, expect_left, expect_length, fails, no_fails,
+    expect_equal, expect_file, expect_front, expect_left, expect_length, fails,
 };
 use frz_store::{FailOn, MemStore};
 use std::alloc::Global;
 use std::process::Abort;
 use std::test::Fail as TestFail;
-use test_tables::{blocked, rook, store_with, table_file};
+use test_tables::{blocked, no_fails, rook, store_with, table_file};
 
 /// Up to two rooks.
 const ROOKS: &[u8] =
@@ -62,7 +62,7 @@ fn expect_table(
 ) -> Result<(), TestFail> {
     let Built(rules, size, codes, length, _, _) = built;
     let file = table_file(alloc, b"FREEZER2", rules, *size, codes)?;
-    assert_eq!(rt; file.len(), *length);
+    expect_equal(rt, &file.len(), length, "length");
     expect_file(rt, store, "T", Some(&file));
     Ok(())
 }

@@ -1,13 +1,10 @@
 //! Tables that lean on a second table, beside files made by hand.
-use super::{
-    NEXT_TO_IT, RULES, call_fails, expect_call, expect_file, expect_left, fails, no_fails,
-    rook_file,
-};
+use super::{NEXT_TO_IT, RULES, expect_call, expect_file, expect_left, fails, rook_file};
 use frz_store::{Fail, FailOn, MemStore};
 use std::alloc::Global;
 use std::process::Abort;
 use std::test::Fail as TestFail;
-use test_tables::{plain_file, store_with, table_file};
+use test_tables::{call_fails, no_fails, plain_file, store_with, table_file};
 
 /// The black king has gone to c8, and White wins everywhere outside: 93 bytes, 2 numbers.
 const NEXT: &[u8] = b"freezer 1

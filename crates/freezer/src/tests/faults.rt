@@ -1,15 +1,12 @@
 //! Each command with the kth call of its store or of its input refused, and over a sink with room
 //! for k bytes, for k from the first until it ends well.
 use super::migrating::former_rooks;
-use super::{
-    CORNER, MATE_IN_ONE, RULES, call_fails, call_with_input, expect_ended, no_fails, rook_file,
-    sink,
-};
+use super::{CORNER, MATE_IN_ONE, RULES, call_with_input, expect_ended, expect_equal, rook_file};
 use frz_store::{Fail, MemSink, MemSource, MemStore};
 use std::alloc::Global;
 use std::process::Abort;
 use std::test::Fail as TestFail;
-use test_tables::store_with;
+use test_tables::{call_fails, empty_sink, no_fails, store_with};
 
 /// The words of a call, what it answers where nothing fails, and the name that it writes.
 struct Asked<'a>(&'a [&'a str], &'a str, Option<&'a str>);
@@ -86,7 +83,7 @@ fn failing_objects(
     Ok(Objects {
         input: MemSource::new(INPUT.to_vec(alloc)?, input),
         store: filled(alloc, store)?,
-        out: sink(alloc, room)?,
+        out: empty_sink(alloc, room)?,
     })
 }
 
@@ -163,7 +160,7 @@ fn expect_refused(
     if ended {
         expect_ended(rt, (status, objects.out.taken()), 0, text);
     } else {
-        assert_eq!(rt; status, 8);
+        expect_equal(rt, &status, &8, "status");
         expect_fault(rt, objects.out.taken(), text, b"store fault\n");
     }
     Ok(ended)
@@ -247,7 +244,7 @@ fn a_sink_takes_the_front_of_each_text(rt: HostRuntime) -> Result<(), TestFail> 
 fn expect_unheard(rt: &impl Abort, alloc: Global, objects: &mut Objects) -> Result<(), TestFail> {
     let Asked(words, text, _) = PLAYED;
     let status = call_over(alloc, words, objects)?;
-    assert_eq!(rt; status, 10);
+    expect_equal(rt, &status, &10, "status");
     expect_fault(rt, objects.out.taken(), text, b"input fault\n");
     Ok(())
 }

@@ -1,12 +1,12 @@
 //! The program over a store that tells nothing of what it holds and contradicts itself.
 ghost use Rattle.std.specs.Prelude.{None};
 
-use super::{MATE_IN_ONE, RULES, call, expect_taken, rook_file, sink};
+use super::{MATE_IN_ONE, RULES, call, expect_equal, expect_taken, rook_file};
 use frz_store::{Failed, Store, StoreFault};
 use std::alloc::Global;
 use std::process::Abort;
 use std::test::Fail as TestFail;
-use test_tables::table_file;
+use test_tables::{empty_sink, table_file};
 
 /// A store in which a name is there at the first call alone, and which keeps no more than these
 /// bytes of it, whatever its length: the others are read as 0.
@@ -84,7 +84,7 @@ fn call_twice(
     store: &mut Fickle<'_>,
     twice: &Twice<'_>,
 ) -> Result<u8, TestFail> {
-    let mut out = sink(alloc, 200)?;
+    let mut out = empty_sink(alloc, 200)?;
     let first = call(alloc, twice.line, store, &mut out)?;
     expect_taken(rt, alloc, twice.line, store, &mut out, 12, twice.text)?;
     Ok(first)
@@ -105,9 +105,12 @@ fn expect_twice(
         asked: 0,
     };
     let first = call_twice(rt, alloc, &mut store, twice)?;
-    assert_eq!(rt;
-        (first, store.calls, store.asked),
-        (twice.status, twice.calls, twice.asked)
+    let given = (first, store.calls, store.asked);
+    expect_equal(
+        rt,
+        &given,
+        &(twice.status, twice.calls, twice.asked),
+        "calls",
     );
     Ok(())
 }

@@ -1,14 +1,14 @@
 //! Lines over tables made by hand.
 use super::tables::table_store;
 use super::{
-    Answered, CORNER, COUNTED, DRAWN, MATE_IN_ONE, NEXT_TO_IT, RULES, STALEMATE, call_fails,
-    expect_asking, expect_calls, expect_failing, expect_taken, no_fails, repeated, sink,
+    Answered, CORNER, COUNTED, DRAWN, MATE_IN_ONE, NEXT_TO_IT, RULES, STALEMATE, expect_asking,
+    expect_calls, expect_failing, expect_taken, repeated,
 };
 use frz_store::{Fail, MemSink};
 use std::alloc::Global;
 use std::process::Abort;
 use std::test::Fail as TestFail;
-use test_tables::{rook, store_with};
+use test_tables::{call_fails, empty_sink, no_fails, rook, store_with};
 
 /// The rook beside its king: no mate is forced, and the king has no third square.
 const NEAR_ROOK: &[u8] =
@@ -155,7 +155,7 @@ fn expect(
     fails: Vec<Fail>,
     room: usize,
 ) -> Result<(), TestFail> {
-    let mut out = sink(alloc, room)?;
+    let mut out = empty_sink(alloc, room)?;
     expect_into(rt, alloc, row, fails, &mut out)
 }
 

@@ -1,12 +1,13 @@
 //! Tables of the former format, made by hand from its definition, and what `migrate` makes of them.
 use super::{
-    Answered, expect_call, expect_calls, expect_file, expect_front, expect_length, fails, no_fails,
+    Answered, expect_call, expect_calls, expect_equal, expect_file, expect_front, expect_length,
+    fails,
 };
 use frz_store::{Fail, FailOn, MemStore};
 use std::alloc::Global;
 use std::process::Abort;
 use std::test::Fail as TestFail;
-use test_tables::{plain_file, store_with, table_file};
+use test_tables::{no_fails, plain_file, store_with, table_file};
 
 /// Up to two rooks on h1 and h8. A former number has a digit for each: 0 and 1 are its square, and
 /// 2 means that it is absent. So there are 2 * 3 * 3 * 2 former numbers, and today 2 * 4 * 2.
@@ -101,7 +102,7 @@ fn expect_today(
     left: Option<usize>,
 ) -> Result<(), TestFail> {
     let today = plain_file(alloc, ROOKS, codes)?;
-    assert_eq!(rt; today.len(), TODAY_LENGTH);
+    expect_equal(rt, &today.len(), &TODAY_LENGTH, "length");
     expect_file(rt, store, "N.t", front(&today, left));
     Ok(())
 }

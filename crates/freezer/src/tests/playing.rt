@@ -1,14 +1,14 @@
 //! Sessions over tables made by hand.
 use super::tables::table_store;
 use super::{
-    CORNER, DRAWN, MATE_IN_ONE, NEXT_TO_IT, RULES, call_fails, call_with_input, expect_ended,
-    no_fails, repeated, sink,
+    CORNER, DRAWN, MATE_IN_ONE, NEXT_TO_IT, RULES, call_with_input, expect_ended, expect_equal,
+    repeated,
 };
 use frz_store::{Fail, MemSink, MemSource};
 use std::alloc::Global;
 use std::process::Abort;
 use std::test::Fail as TestFail;
-use test_tables::rook;
+use test_tables::{call_fails, empty_sink, no_fails, rook};
 
 const ROOK: &[u32] = &rook::CODES;
 
@@ -155,10 +155,10 @@ fn expect_heard(
     room: usize,
 ) -> Result<(), TestFail> {
     let Row(_, _, _, _, _, status, text, left) = row;
-    let mut out = sink(alloc, room)?;
+    let mut out = empty_sink(alloc, room)?;
     let answer = play(alloc, row, input, &mut out)?;
     expect_ended(rt, (answer, out.taken()), *status, text);
-    assert_eq!(rt; input.left(), *left);
+    expect_equal(rt, &input.left(), left, "left");
     Ok(())
 }
 

@@ -1,10 +1,10 @@
 //! Reports of tables, those that the program builds and one made by hand.
-use super::{Answered, RULES, call, expect_calls, expect_ended, fails, no_fails, sink};
+use super::{Answered, RULES, call, expect_calls, expect_ended, expect_equal, fails};
 use frz_store::{Fail, FailOn, MemSink, MemStore};
 use std::alloc::Global;
 use std::process::Abort;
 use std::test::Fail as TestFail;
-use test_tables::store_with;
+use test_tables::{empty_sink, no_fails, store_with};
 
 /// Two kings, far apart: whoever is to move has lost, by the exits that are assigned.
 const LOST: &[u8] = b"freezer 1
@@ -26,7 +26,7 @@ exit white wins if count:white:Q:1 distance:white:d8:0-1
 
 /// Builds the table `T` of the text in the store.
 fn build(alloc: Global, store: &mut MemStore) -> Result<u8, TestFail> {
-    let mut out = sink(alloc, 200)?;
+    let mut out = empty_sink(alloc, 200)?;
     call(alloc, &["build", "A", "T"], store, &mut out)
 }
 
@@ -58,7 +58,7 @@ fn expect_report(
     status: u8,
     text: &str,
 ) -> Result<(), TestFail> {
-    let mut out = sink(alloc, room)?;
+    let mut out = empty_sink(alloc, room)?;
     let answer = report(alloc, rules, fails, &mut out)?;
     expect_ended(rt, (answer, out.taken()), status, text);
     Ok(())
@@ -86,9 +86,9 @@ fn expect_within(rt: &impl Abort, text: &str, line: &str) {
 #[test]
 fn finds_a_known_mutual_zugzwang(rt: HostRuntime) -> Result<(), TestFail> {
     let alloc = rt.alloc();
-    let mut out = sink(alloc, 20_000)?;
+    let mut out = empty_sink(alloc, 20_000)?;
     let status = report(alloc, PAWN, no_fails(alloc), &mut out)?;
-    assert_eq!(rt; status, 0);
+    expect_equal(&rt, &status, &0, "status");
     let text = str::from_utf8(out.taken()).or(Err("text"))?;
     expect_within(&rt, text, " 2k5/8/2KP4/8/8/8/8/8 w - - 0 1\n");
     expect_within(&rt, text, " 4k3/8/3PK3/8/8/8/8/8 w - - 0 1\n");

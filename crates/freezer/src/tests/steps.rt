@@ -4,7 +4,7 @@ ghost use Rattle.std.specs.Prelude.{◌≡◌, ◌≤◌, ◌<◌, ◌+◌, ◌*
 ghost use Rattle.frz_sets.specs.Sound.{IsSound};
 ghost use Rattle.frz_table.specs.Tables.{Carries};
 
-use super::{RULES, no_fails};
+use super::RULES;
 use frz_build::{NewTable, build_table};
 use frz_check::{Verdict, check_kept};
 use frz_exits::RuleBook;
@@ -18,7 +18,7 @@ use std::alloc::Global;
 use std::marker::Brand;
 use std::sync::ledger::{Blank, Ledger};
 use std::test::Fail;
-use test_tables::blocked;
+use test_tables::{blocked, no_fails};
 
 /// Builds the table of a game whose set has this size, under the name `T`.
 fn build_game<L: Ledger>(

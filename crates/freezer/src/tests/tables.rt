@@ -1,13 +1,13 @@
 //! Tables made by hand, checked and asked.
 use super::{
-    Answered, CORNER, MATE_IN_ONE, NEXT_TO_IT, RULES, call_fails, expect_asking, expect_call,
-    expect_failing, no_fails, rook_file,
+    Answered, CORNER, MATE_IN_ONE, NEXT_TO_IT, RULES, expect_asking, expect_call, expect_equal,
+    expect_failing, rook_file,
 };
 use frz_store::{Fail, MemStore};
 use std::alloc::Global;
 use std::process::Abort;
 use std::test::Fail as TestFail;
-use test_tables::{plain_file, rook, store_with, table_file};
+use test_tables::{call_fails, no_fails, plain_file, rook, store_with, table_file};
 
 /// The rook beside its king: no mate is forced.
 const NEAR_ROOK: &[u8] =
@@ -120,7 +120,7 @@ fn expect_changes(
 fn checks_tables(rt: HostRuntime) -> Result<(), TestFail> {
     let alloc = rt.alloc();
     let file = rook_file(alloc)?;
-    assert_eq!(rt; file.len(), 153);
+    expect_equal(&rt, &file.len(), &153, "length");
     expect_changes(&rt, alloc, &file, ROOK_ROWS)
 }
 

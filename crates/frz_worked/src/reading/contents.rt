@@ -1,6 +1,7 @@
 //! What the lines of an accepted text say.
 use super::limits::have_values;
 use super::{A, read};
+use crate::expect::{expect_equal, expect_holds};
 use frz_board::{Colour, Kind, Square};
 use frz_sets::{Cond, Forbid, Group, Only, Rules, Test, Value};
 use frz_words::SquareSet;
@@ -27,7 +28,7 @@ fn is_group(g: &Group) -> bool {
 #[test]
 fn states_of_a_group(rt: HostRuntime) {
     let rules = behind_a(&rt, rt.alloc(), b"group black 0-2\tN:b1,a1 B:c1 N:a1\r\n");
-    assert_eq!(rt; rules.groups.len(), 4);
+    expect_equal(&rt, &rules.groups.len(), &4, "groups");
     assert!(rt; is_group(&rules.groups[3]));
 }
 
@@ -62,7 +63,12 @@ forbid white K from b6 to a1,h8 capture
 forbid white R from h1 to h8
 ";
     let rules = behind_a(&rt, rt.alloc(), lines);
-    assert_eq!(rt; rules.forbids.as_slice(), FORBIDS.as_slice());
+    expect_equal(
+        &rt,
+        &rules.forbids.as_slice(),
+        &FORBIDS.as_slice(),
+        "forbids",
+    );
 }
 
 /// An exit line, and its value.
@@ -86,7 +92,7 @@ const VALUES: &[Valued] = &[
 fn values_of_exits(rt: HostRuntime) {
     for Valued(line, value) in VALUES {
         let rules = behind_a(&rt, rt.alloc(), line);
-        assert!(rt; have_values(&rules.exits, &[*value]), "{value:?}");
+        expect_holds(&rt, have_values(&rules.exits, &[*value]), value);
     }
 }
 
@@ -116,6 +122,6 @@ fn conditions_of_exits(rt: HostRuntime) {
         (false, Test::Check),
         (true, Test::Always),
     ];
-    assert_eq!(rt; rules.exits.len(), 1);
+    expect_equal(&rt, &rules.exits.len(), &1, "exits");
     assert!(rt; are_conds(&rules.exits[0].conds, &want));
 }

@@ -1,5 +1,6 @@
 //! Texts at the limits of the format are accepted.
 use super::{A, SetSize, all_sized, read};
+use crate::expect::expect_equal;
 use frz_rules::{RulesCause, RulesError, RulesFault};
 use frz_sets::{Exit, Value};
 use std::alloc::Global;
@@ -27,8 +28,8 @@ fn most_of_each(rt: HostRuntime) {
 fn eight_conditions(rt: HostRuntime) -> Result<(), Fail> {
     let line: &[u8] = b"exit draw if check check check check check check check !always\n";
     let rules = read(&rt, rt.alloc(), &[A, line]).ok().ok_or("rules")?;
-    assert_eq!(rt; rules.exits.len(), 1);
-    assert_eq!(rt; rules.exits[0].conds.len(), 8);
+    expect_equal(&rt, &rules.exits.len(), &1, "exits");
+    expect_equal(&rt, &rules.exits[0].conds.len(), &8, "conditions");
     Ok(())
 }
 
@@ -74,7 +75,7 @@ exit black wins 777 if check
 
 fn check_text(rt: &impl Abort, alloc: Global, error: RulesError, text: &str) -> Result<(), Fail> {
     let given = format!(in alloc; "{}", error)?;
-    assert_eq!(rt; given.as_str(), text);
+    expect_equal(rt, &given.as_str(), &text, "text");
     Ok(())
 }
 

@@ -1,5 +1,6 @@
 //! Files of the former format that are made by hand, opened and read.
 use super::refusal;
+use crate::expect::expect_equal;
 use frz_former::{OldFile, open_old};
 use frz_rules::{RulesCause, RulesFault};
 use frz_store::MemStore;
@@ -7,7 +8,7 @@ use frz_table::{FileKind, TableFault};
 use std::alloc::Global;
 use std::process::Abort;
 use std::test::Fail;
-use test_tables::{store_with, table_file};
+use test_tables::{no_fails, store_with, table_file};
 
 /// None, one or both rooks: 75 bytes, and 36 numbers in the former format.
 const ROOKS: &str = "freezer 1
@@ -30,19 +31,19 @@ fn old_file(alloc: Global, magic: &[u8], kept: u32) -> Result<Vec<u8>, Fail> {
 
 /// Why a file is refused as one of the former format.
 fn old_refusal(alloc: Global, file: &[u8]) -> Result<Option<TableFault>, Fail> {
-    let mut store = store_with(alloc, Vec::new(alloc), &[("A.t", file)])?;
+    let mut store = store_with(alloc, no_fails(alloc), &[("A.t", file)])?;
     Ok(open_old(alloc, &mut store, "A.t").err())
 }
 
 /// A store with the file of the former format alone.
 fn old_store(alloc: Global) -> Result<MemStore, Fail> {
     let file = old_file(alloc, b"FREEZER1", 36)?;
-    store_with(alloc, Vec::new(alloc), &[("A.t", &file)])
+    store_with(alloc, no_fails(alloc), &[("A.t", &file)])
 }
 
 fn check_old(rt: &impl Abort, old: &OldFile) {
-    assert_eq!(rt; old.name(), "A.t");
-    assert_eq!(rt; old.text(), ROOKS.as_bytes());
+    expect_equal(rt, &old.name(), &"A.t", "name");
+    expect_equal(rt, &old.text(), &ROOKS.as_bytes(), "text");
 }
 
 /// Opens the file, checks it, and gives White's codes and Black's.
@@ -58,8 +59,8 @@ fn read_old(
 
 fn check_read(rt: &impl Abort, alloc: Global, store: &mut MemStore) -> Result<(), TableFault> {
     let (white, black) = read_old(rt, alloc, store)?;
-    assert_eq!(rt; white.as_slice(), &CODES[..36]);
-    assert_eq!(rt; black.as_slice(), &CODES[36..]);
+    expect_equal(rt, &white.as_slice(), &&CODES[..36], "white");
+    expect_equal(rt, &black.as_slice(), &&CODES[36..], "black");
     Ok(())
 }
 
@@ -84,7 +85,7 @@ fn altered_files_of_the_former_format_are_refused(rt: HostRuntime) -> Result<(),
     for OldAltered(magic, kept, fault) in OLD_ALTERED {
         let file = old_file(alloc, magic, *kept)?;
         let given = old_refusal(alloc, &file)?;
-        assert_eq!(rt; given, Some(*fault));
+        expect_equal(&rt, &given, &Some(*fault), "refusal");
     }
     Ok(())
 }
@@ -123,7 +124,7 @@ fn former_sizes_at_the_limit(rt: HostRuntime) -> Result<(), Fail> {
     for (text, fault) in AT_THE_LIMIT {
         let file = table_file(alloc, b"FREEZER1", text, 8, &[])?;
         let given = old_refusal(alloc, &file)?;
-        assert_eq!(rt; given, Some(*fault));
+        expect_equal(&rt, &given, &Some(*fault), "refusal");
     }
     Ok(())
 }
@@ -133,7 +134,7 @@ fn the_former_format_is_no_plain_table(rt: HostRuntime) -> Result<(), Fail> {
     let alloc = rt.alloc();
     let file = old_file(alloc, b"FREEZER1", 36)?;
     let given = refusal(alloc, &file, FileKind::Plain)?;
-    assert_eq!(rt; given, Some(TableFault::Magic));
+    expect_equal(&rt, &given, &Some(TableFault::Magic), "refusal");
     Ok(())
 }
 
@@ -141,9 +142,9 @@ fn the_former_format_is_no_plain_table(rt: HostRuntime) -> Result<(), Fail> {
 fn files_of_the_former_format_that_go_on_are_refused(rt: HostRuntime) -> Result<(), Fail> {
     let alloc = rt.alloc();
     let mut file = old_file(alloc, b"FREEZER1", 36)?;
-    assert_eq!(rt; file.len(), 379);
+    expect_equal(&rt, &file.len(), &379, "length");
     file.push(0)?;
     let given = old_refusal(alloc, &file)?;
-    assert_eq!(rt; given, Some(TableFault::Extra(380, 379)));
+    expect_equal(&rt, &given, &Some(TableFault::Extra(380, 379)), "refusal");
     Ok(())
 }

@@ -1,12 +1,13 @@
 //! Files and headers that are written, whole and up to a fault.
 use super::{BLACK, ROOK, WHITE, joined, rook_file};
+use crate::expect::{expect_equal, expect_holds};
 use crate::stores::check_file;
 use frz_store::{Fail as Failing, FailOn, MemStore, Store, StoreFault};
 use frz_table::{FileKind, write_entries, write_header, write_header_kind};
 use std::alloc::Global;
 use std::process::Abort;
 use std::test::Fail;
-use test_tables::blocked;
+use test_tables::{blocked, no_fails};
 
 /// A king and a rook beside it against a king in the corner: 73 bytes, 8 numbers.
 const NEAR_ROOK: &str = "freezer 1
@@ -31,8 +32,8 @@ fn write_all(store: &mut MemStore) -> Result<(), StoreFault> {
 fn what_is_written_is_the_file(rt: HostRuntime) -> Result<(), Fail> {
     let alloc = rt.alloc();
     let file = rook_file(alloc)?;
-    let mut store = MemStore::new(alloc, Vec::new(alloc));
-    assert_eq!(rt; write_all(&mut store), Ok(()));
+    let mut store = MemStore::new(alloc, no_fails(alloc));
+    expect_equal(&rt, &write_all(&mut store), &Ok(()), "written");
     check_file(&rt, &store, "A.t", &file);
     Ok(())
 }
@@ -47,7 +48,7 @@ fn check_front(
 ) -> Result<(), Fail> {
     let on = FailOn::Append;
     let mut store = MemStore::new(alloc, vec![in alloc; Failing { on, nth, keep }]?);
-    assert_eq!(rt; write_all(&mut store), Err(StoreFault::Failed), "{nth}");
+    expect_holds(rt, write_all(&mut store) == Err(StoreFault::Failed), &nth);
     check_file(rt, &store, "A.t", front);
     Ok(())
 }
@@ -114,7 +115,7 @@ fn headers_have_their_bytes(rt: HostRuntime) -> Result<(), Fail> {
     let alloc = rt.alloc();
     for Header(kind, text, size, front, back) in HEADERS {
         let want = joined(alloc, &[front, text.as_bytes(), back])?;
-        let mut store = MemStore::new(alloc, Vec::new(alloc));
+        let mut store = MemStore::new(alloc, no_fails(alloc));
         write_head(&mut store, *kind, text.as_bytes(), *size)?;
         check_file(&rt, &store, "H", &want);
     }
