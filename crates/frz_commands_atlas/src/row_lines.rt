@@ -3,7 +3,6 @@ ghost use Rattle.std.specs.Prelude.{◌≡◌, ◌≤◌, ◌+◌, ◌++◌, All
 ghost use Rattle.frz_fide.specs.Legal.{is_legal};
 ghost use Rattle.frz_fide.specs.Listing.{legal_moves_of};
 ghost use Rattle.frz_fide.specs.Valid.{IsValid};
-ghost use Rattle.frz_san.specs.Notation.{san_of};
 ghost use Rattle.frz_store.specs.Told.{sink_of};
 ghost use Rattle.frz_answer.specs.Texts.{WroteText};
 ghost use Rattle.frz_ways.specs.Texts.{value_text};
@@ -89,26 +88,8 @@ fn write_behind<O: Sink>(row: Row, out: &mut O) -> Result<(), Failed>
     write_piece(b"\n", out)
 }
 
-/// Writes a legal move in algebraic notation; `moves` are all legal moves of the position.
-fn write_move<O: Sink, L: Ledger>(
-    p: &Position,
-    moves: &[Move],
-    m: Move,
-    out: &mut O,
-    steps: &mut Steps<L>,
-) -> Result<(), Failed>
-    requires valid { IsValid p.now }
-    requires moves { moves.now ≡ legal_moves_of p.now }
-    requires legal { is_legal p.now m ≡ true }
-    ensures wrote { WroteText (san_of p.now m) result
-        (sink_of O.Sink out.old) (sink_of O.Sink out.new) }
-    ensures later { steps.old ≤ steps.new }
-    ensures few { steps.new ≤ steps.old + 1 }
-{
-    write_piece(san_among(p, moves, m, steps).as_bytes(), out)
-}
-
-/// Writes the line of a legal move; `moves` are all legal moves of the position.
+/// Writes the line of a legal move, which begins with its algebraic notation; `moves` are all legal
+/// moves of the position.
 fn write_row<O: Sink, L: Ledger>(
     p: &Position,
     moves: &[Move],
@@ -125,7 +106,7 @@ fn write_row<O: Sink, L: Ledger>(
     ensures few { steps.new ≤ steps.old + 1 }
 {
     let arm = row.arm;
-    write_move(p, moves, arm.mv, out, steps)?;
+    write_piece(san_among(p, moves, arm.mv, steps).as_bytes(), out)?;
     write_behind(row, out)
 }
 

@@ -136,7 +136,7 @@ const PAIRS: &[(u32, u32, Value)] = &[
 fn pairs_of_codes(rt: HostRuntime) {
     for (white, black, value) in PAIRS {
         let given = (*white, *black, pair_value(*white, *black));
-        expect_equal(rt, &given, &(*white, *black, *value), "a pair");
+        expect_equal(&rt, &given, &(*white, *black, *value), "a pair");
     }
 }
 

@@ -11,7 +11,6 @@ use frz_store::MemStore;
 use frz_table::TableFault;
 use std::alloc::Global;
 use std::marker::Brand;
-use std::process::Abort;
 use std::sync::ledger::{Blank, Ledger};
 use std::test::Fail;
 use test_tables::{no_fails, plain_file, rook, store_with};
