@@ -158,7 +158,7 @@ fn check_old_number(rt: &impl Abort, rules: &Rules, row: &OldRow) -> Result<(), 
 #[test]
 fn old_numbers(rt: HostRuntime) -> Result<(), Fail> {
     let rules = read_rules(rt.alloc(), ROOKS.as_bytes())?;
-    expect_equal(&rt, &old_size(&rules), &36, "old size");
+    assert_eq!(rt; old_size(&rules), 36);
     for row in OLD_ROWS {
         check_old_number(&rt, &rules, row)?;
     }

@@ -28,7 +28,7 @@ fn is_group(g: &Group) -> bool {
 #[test]
 fn states_of_a_group(rt: HostRuntime) {
     let rules = behind_a(&rt, rt.alloc(), b"group black 0-2\tN:b1,a1 B:c1 N:a1\r\n");
-    expect_equal(&rt, &rules.groups.len(), &4, "groups");
+    assert_eq!(rt; rules.groups.len(), 4);
     assert!(rt; is_group(&rules.groups[3]));
 }
 
@@ -122,6 +122,6 @@ fn conditions_of_exits(rt: HostRuntime) {
         (false, Test::Check),
         (true, Test::Always),
     ];
-    expect_equal(&rt, &rules.exits.len(), &1, "exits");
+    assert_eq!(rt; rules.exits.len(), 1);
     assert!(rt; are_conds(&rules.exits[0].conds, &want));
 }

@@ -28,7 +28,7 @@ fn most_of_each(rt: HostRuntime) {
 fn eight_conditions(rt: HostRuntime) -> Result<(), Fail> {
     let line: &[u8] = b"exit draw if check check check check check check check !always\n";
     let rules = read(&rt, rt.alloc(), &[A, line]).ok().ok_or("rules")?;
-    expect_equal(&rt, &rules.exits.len(), &1, "exits");
+    assert_eq!(rt; rules.exits.len(), 1);
     expect_equal(&rt, &rules.exits[0].conds.len(), &8, "conditions");
     Ok(())
 }
