@@ -1,6 +1,8 @@
 //! What a call takes: its words, a sink for its text, and calls of an object that fail.
 ghost use Rattle.std.specs.Prelude.{◌≡◌, [], ◌∷◌, map, Some, IfOk};
 ghost use Rattle.std.specs.String.{string_bytes};
+ghost use Rattle.frz_store.specs.Fails.{new_plan};
+ghost use Rattle.frz_store.specs.MemSink.{plan, room_left};
 ghost use Rattle.frz_store.specs.declared.fails.Fail.{Fail as Failing};
 ghost use Rattle.frz_store.specs.declared.fails.FailOn.TheVariants.{Call};
 
@@ -38,9 +40,12 @@ pub fn call_fails(alloc: Global, nth: u64) -> Result<Vec<Failing>, Fail>
     Ok(vec![in alloc; fail]?)
 }
 
-/// An empty sink that takes so many bytes.
+/// An empty sink with room for so many bytes, of which no write is to fail.
 pub fn empty_sink(alloc: Global, room: usize) -> Result<MemSink, Fail>
-    ensures { IfOk result (λ sink. ⟦<MemSink as Sink>⟧.taken sink ≡ Some []) }
+    ensures taken { IfOk result (λ sink. ⟦<MemSink as Sink>⟧.taken sink ≡ Some []) }
+    ensures faults { IfOk result (λ sink. ⟦<MemSink as Sink>⟧.faults sink ≡ 0) }
+    ensures room { IfOk result (λ sink. room_left sink ≡ room) }
+    ensures plan { IfOk result (λ sink. plan sink ≡ new_plan []) }
 {
     Ok(MemSink::new(alloc, room, no_fails(alloc)).or(Err("sink"))?)
 }

@@ -1,6 +1,8 @@
 //! Stores in memory that hold files.
 ghost use Rattle.std.specs.Prelude.{◌≡◌, fold, Some, IfOk};
+ghost use Rattle.frz_store.specs.Fails.{new_plan};
 ghost use Rattle.frz_store.specs.Files.{no_files, put};
+ghost use Rattle.frz_store.specs.MemStore.{plan};
 
 use frz_store::{Fail as Failing, MemStore, Store};
 use std::alloc::Global;
@@ -16,6 +18,7 @@ pub fn store_with(
     ensures files { IfOk result (λ store. ⟦<MemStore as Store>⟧.files store
         ≡ Some (fold (λ held file. put held file.0.now file.1.now) no_files files.now)) }
     ensures room { IfOk result (λ store. ⟦<MemStore as Store>⟧.room store ≡ 0) }
+    ensures plan { IfOk result (λ store. plan store ≡ new_plan fails.items) }
 {
     let mut store = MemStore::new(alloc, fails);
     for (name, bytes) in files {
