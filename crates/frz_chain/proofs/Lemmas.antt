@@ -3,7 +3,6 @@ pub use Rattle.frz_chain.proofs.ChainPlies.{chain_within}
 pub use Rattle.frz_chain.proofs.Chained.{file_on_there}
 pub use Rattle.frz_chain.proofs.DecidedBacks.{back_decides, chain_decided, first_decides}
 pub use Rattle.frz_chain.proofs.ExactBacks.{all_if_exact, judged_exact}
-pub use Rattle.frz_chain.proofs.HandedOn.{handed_on, refused_as}
 pub use Rattle.frz_chain.proofs.Pairs.{holds_of_pair_value, win_told}
 pub use Rattle.frz_chain.proofs.SmallLags.{chain_small, told_small}
 pub use Rattle.frz_chain.proofs.TablePlies.{ExitsForced, Forced, back_forced, forced_later, own_forced, table_forced, unknown_forced, win_forced}

@@ -1,5 +1,4 @@
 pub mod Lemmas
-mod HandedOn
 mod Pairs
 mod Told
 mod TrueValues

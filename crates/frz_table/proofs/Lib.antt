@@ -1,3 +1,4 @@
+pub mod HandedOn
 pub mod Pushing
 pub mod NumberLists
 pub mod Refusing

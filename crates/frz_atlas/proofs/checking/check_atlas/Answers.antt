@@ -15,7 +15,7 @@ use Rattle.frz_chain.specs.declared.back.BackTable.{BackTable}
 use Rattle.frz_backs.specs.Links.{backs_of}
 use Rattle.frz_backs.specs.Loaded.{link_loaded}
 use Rattle.frz_backs.specs.Values.{atlas_value}
-use Rattle.frz_chain.proofs.Lemmas.{refused_as}
+use Rattle.frz_table.proofs.Lemmas.{refused_as}
 use Rattle.frz_backs.proofs.Lemmas.{loaded_backs}
 use Rattle.frz_atlas.specs.Checking.{RefusesAtlas}
 use Rattle.frz_atlas.specs.declared.fault.AtlasFault.{AtlasFault}

@@ -2,7 +2,7 @@ use Rattle.std.specs.Prelude.{map}
 use Rattle.std.specs.String.{string_bytes}
 use Rattle.std.proofs.Common.{sym, subst}
 use Rattle.frz_store.specs.Told.{store_of}
-use Rattle.frz_chain.proofs.Lemmas.{refused_as}
+use Rattle.frz_table.proofs.Lemmas.{refused_as}
 use Rattle.frz_backs.specs.Loaded.{link_loaded}
 use Rattle.frz_atlas.specs.Reading.{RefusesToRead}
 use Rattle.frz_atlas.specs.declared.fault.AtlasFault.{AtlasFault}

@@ -9,7 +9,7 @@ use Rattle.frz_chain.specs.Chains.{RefusesToChain}
 use Rattle.frz_chain.specs.FileOn.{loaded_back}
 use Rattle.frz_chain.specs.declared.fault.ChainFault.{ChainFault}
 use Rattle.frz_chain.proofs.Chained.{built_over_back, not_chained, not_read, write_cause}
-use Rattle.frz_chain.proofs.HandedOn.{handed_on, refused_as}
+use Rattle.frz_table.proofs.Lemmas.{handed_on, refused_as}
 use Rattle.frz_chain.proofs.building.build_chain.Goals as goal
 
 pub build_over-requires-clause-text : goal.build_over-requires-clause-text

@@ -7,7 +7,7 @@ use Rattle.frz_chain.specs.declared.checking.ChainVerdict.{ChainVerdict}
 use Rattle.frz_chain.specs.declared.fault.ChainFault.{ChainFault}
 use Rattle.frz_chain.proofs.Causes.{chain_later}
 use Rattle.frz_chain.proofs.Checked.{back_refused, not_opened, result_told}
-use Rattle.frz_chain.proofs.HandedOn.{refused_as}
+use Rattle.frz_table.proofs.Lemmas.{refused_as}
 use Rattle.frz_chain.proofs.checking.check_chain.Goals as goal
 
 pub returns-in-Err-clause-refused : goal.returns-in-Err-clause-refused

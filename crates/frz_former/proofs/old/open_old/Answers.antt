@@ -1,19 +1,16 @@
-use Rattle.std.proofs.Common.{◌≡◌, inl, inr, subst, ℕ, List, Ok, IfSome, arith}
+use Rattle.std.proofs.Common.{◌≡◌, List, ℕ, Ok, IfSome, arith}
 use Rattle.std.proofs.lemmas.Result.{err_from_is_err_and}
-use Rattle.frz_store.specs.Outside.{Rose}
 use Rattle.frz_store.specs.Told.{store_of}
 use Rattle.frz_table.specs.declared.fault.TableFault.{TableFault}
-use Rattle.frz_table.specs.declared.fault.TableFault.TheVariants.{NoMemory}
-use Rattle.frz_table.specs.Memory.{MemoryWanted, WantsMemory}
-use Rattle.frz_former.specs.OldFiles.{old_format, old_rules_of}
+use Rattle.frz_former.specs.OldFiles.{old_format, old_magic, old_rules_of}
 use Rattle.frz_table.specs.Opening.{Refuses, opened}
 use Rattle.frz_table.specs.Possible.{MayRefuse, SomeSizeRefused}
 use Rattle.frz_table.specs.Steps.{IsFormatOf, SizeRefused}
 use Rattle.frz_table.specs.Tables.{Holds}
 use Rattle.frz_former.proofs.FormerFiles.{old_eight, old_is_format, old_read, old_refused}
 use Rattle.frz_table.proofs.Lemmas.{opens, refuse_format, refuse_read, refuse_size}
-use Rattle.frz_table.proofs.Lemmas.{later_asked, may_open, may_refuse, may_refuse_read, may_refuse_size, same_error, some_size_outside, told_outside}
-use Rattle.frz_table.proofs.Lemmas.{kept_wants}
+use Rattle.frz_table.proofs.Lemmas.{later_asked, may_open, may_refuse, may_refuse_read, may_refuse_size, some_size_outside, told_outside}
+use Rattle.frz_table.proofs.Lemmas.{sized_memory, told_memory, unread_memory}
 use Rattle.frz_former.proofs.old.open_old.Given.{Over}
 use Rattle.frz_former.proofs.old.open_old.Goals as goal
 use Rattle.frz_former.proofs.old.open_old.Goals.{After-check_size}
@@ -140,26 +137,18 @@ returns-clause-may_open g c =
 
 pub returns-in_err-opened-clause-memory : goal.returns-in_err-opened-clause-memory
 returns-in_err-opened-clause-memory g c =
-    let p = err_from_is_err_and c.from_residual.result c.from_residual.ensures.1 in
-    rw (p.1, p.2)
-    (λ wanted. subst (λ (m : List ℕ). MemoryWanted m (g.S.Store.files c.args.store.now)
-    c.args.name.now (g.S.Store.wants c.args.store.now) (g.S.Store.wants c.open_text.new.store))
-    c.magic.ensures (c.in_err-opened.ensures.memory
-    (same_error c.in_err-opened.field-0.0 NoMemory wanted)))
+    unread_memory c.from_residual.result _ c.from_residual.ensures.1 _
+    (g.S.Store.files c.args.store.now) c.args.name.now _ _ _ c.magic.ensures
+    c.in_err-opened.ensures.memory
 
 pub returns-in_err-check_size-clause-memory : goal.returns-in_err-check_size-clause-memory
 returns-in_err-check_size-clause-memory g c =
-    let p = err_from_is_err_and c.from_residual-in_err-check_size.result
-    c.from_residual-in_err-check_size.ensures.1 in
-    rw (p.1, p.2)
-    (λ wanted. inl (subst (λ (n : ℕ). Rose n (g.S.Store.wants c.check_size.new.store))
-    c.in_ok-opened.ensures.causes.wants_fine (c.in_err-check_size.ensures.memory
-    (same_error c.in_err-check_size.field-0.0 NoMemory wanted))))
+    sized_memory c.from_residual-in_err-check_size.result _
+    c.from_residual-in_err-check_size.ensures.1 old_magic (g.S.Store.files c.args.store.now)
+    c.args.name.now _ _ _ c.in_ok-opened.ensures.causes.wants_fine c.in_err-check_size.ensures.memory
 
 pub returns-in_err-name-clause-memory : goal.returns-in_err-name-clause-memory
 returns-in_err-name-clause-memory g c =
-    λ wanted. inr (subst (λ (m : List ℕ). Holds (g.S.Store.files c.args.store.now) c.args.name.now
-    (WantsMemory m)) c.magic.ensures
-    (kept_wants c.magic.result.now (g.S.Store.files c.args.store.now) c.args.name.now
-    c.in_ok-opened.opened.text.items c.in_ok-opened.opened.file c.in_ok-opened.opened.rules
-    c.in_ok-opened.ensures.text c.in_ok-opened.ensures.read.read))
+    λ wanted. told_memory _ c.magic.result.now (g.S.Store.files c.args.store.now) c.args.name.now
+    c.in_ok-opened.opened.text.items c.in_ok-opened.opened.file c.in_ok-opened.opened.rules _ _
+    c.magic.ensures c.in_ok-opened.ensures.text c.in_ok-opened.ensures.read.read

@@ -1,14 +1,11 @@
-use Rattle.std.proofs.Common.{ap, ◌∙◌, inl, inr, subst, List, ℕ, arith, rules}
+use Rattle.std.proofs.Common.{ap, ◌∙◌, arith, rules}
 use Rattle.std.proofs.lemmas.Result.{err_from_is_err_and}
 use Rattle.frz_sets.specs.Sets.{size_of}
-use Rattle.frz_store.specs.Outside.{Rose}
-use Rattle.frz_table.specs.declared.fault.TableFault.TheVariants.{NoMemory}
-use Rattle.frz_table.specs.Memory.{MemoryWanted, WantsMemory}
+use Rattle.frz_table.specs.Layout.{magic_of}
 use Rattle.frz_table.specs.Opening.{table_format}
-use Rattle.frz_table.specs.Tables.{Holds}
 use Rattle.frz_table.proofs.Refusing.{table_is_format, refuse_format, refuse_none, refuse_size, opens}
-use Rattle.frz_table.proofs.SomeFiles.{causes_behind, eight_bytes, later_asked, may_open, may_refuse, may_refuse_size, same_error, some_outside, some_size_outside, told_outside}
-use Rattle.frz_table.proofs.WantingMemory.{kept_wants}
+use Rattle.frz_table.proofs.SomeFiles.{causes_behind, eight_bytes, later_asked, may_open, may_refuse, may_refuse_size, some_outside, some_size_outside, told_outside}
+use Rattle.frz_table.proofs.WantingMemory.{sized_memory, told_memory, unread_memory}
 use Rattle.frz_table.proofs.opening.open_kind.Goals as goal
 
 pub returns-in_err-opened-clause-refused : goal.returns-in_err-opened-clause-refused
@@ -124,34 +121,24 @@ returns-in_err-check_size-clause-causes g c =
 
 pub returns-in_err-opened-clause-memory : goal.returns-in_err-opened-clause-memory
 returns-in_err-opened-clause-memory g c =
-    let p = err_from_is_err_and c.from_residual.result c.from_residual.ensures.1 in
-    rw (p.1, p.2)
-    (λ wanted. subst (λ (m : List ℕ). MemoryWanted m (g.S.Store.files c.args.store.now)
-    c.args.name.now (g.S.Store.wants c.args.store.now) (g.S.Store.wants c.open_text.new.store))
-    c.magic.ensures (c.in_err-opened.ensures.memory
-    (same_error c.in_err-opened.field-0.0 NoMemory wanted)))
+    unread_memory c.from_residual.result _ c.from_residual.ensures.1 _
+    (g.S.Store.files c.args.store.now) c.args.name.now _ _ _ c.magic.ensures
+    c.in_err-opened.ensures.memory
 
 pub returns-in_err-set-clause-memory : goal.returns-in_err-set-clause-memory
 returns-in_err-set-clause-memory g c =
-    λ wanted. inr (subst (λ (m : List ℕ). Holds (g.S.Store.files c.args.store.now) c.args.name.now
-    (WantsMemory m)) c.magic.ensures
-    (kept_wants c.magic.result.now (g.S.Store.files c.args.store.now) c.args.name.now
-    c.in_ok-opened.opened.text.items c.in_ok-opened.opened.file c.in_ok-opened.opened.rules
-    c.in_ok-opened.ensures.text c.in_ok-opened.ensures.read.read))
+    λ wanted. told_memory _ c.magic.result.now (g.S.Store.files c.args.store.now) c.args.name.now
+    c.in_ok-opened.opened.text.items c.in_ok-opened.opened.file c.in_ok-opened.opened.rules _ _
+    c.magic.ensures c.in_ok-opened.ensures.text c.in_ok-opened.ensures.read.read
 
 pub returns-in_err-check_size-clause-memory : goal.returns-in_err-check_size-clause-memory
 returns-in_err-check_size-clause-memory g c =
-    let p = err_from_is_err_and c.from_residual-in_err-check_size.result
-    c.from_residual-in_err-check_size.ensures.1 in
-    rw (p.1, p.2)
-    (λ wanted. inl (subst (λ (n : ℕ). Rose n (g.S.Store.wants c.check_size.new.store))
-    c.in_ok-opened.ensures.causes.wants_fine (c.in_err-check_size.ensures.memory
-    (same_error c.in_err-check_size.field-0.0 NoMemory wanted))))
+    sized_memory c.from_residual-in_err-check_size.result _
+    c.from_residual-in_err-check_size.ensures.1 (magic_of c.args.kind) (g.S.Store.files c.args.store.now)
+    c.args.name.now _ _ _ c.in_ok-opened.ensures.causes.wants_fine c.in_err-check_size.ensures.memory
 
 pub returns-in_err-name-clause-memory : goal.returns-in_err-name-clause-memory
 returns-in_err-name-clause-memory g c =
-    λ wanted. inr (subst (λ (m : List ℕ). Holds (g.S.Store.files c.args.store.now) c.args.name.now
-    (WantsMemory m)) c.magic.ensures
-    (kept_wants c.magic.result.now (g.S.Store.files c.args.store.now) c.args.name.now
-    c.in_ok-opened.opened.text.items c.in_ok-opened.opened.file c.in_ok-opened.opened.rules
-    c.in_ok-opened.ensures.text c.in_ok-opened.ensures.read.read))
+    λ wanted. told_memory _ c.magic.result.now (g.S.Store.files c.args.store.now) c.args.name.now
+    c.in_ok-opened.opened.text.items c.in_ok-opened.opened.file c.in_ok-opened.opened.rules _ _
+    c.magic.ensures c.in_ok-opened.ensures.text c.in_ok-opened.ensures.read.read
