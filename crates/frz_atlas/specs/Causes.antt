@@ -6,17 +6,13 @@ use Rattle.frz_rules.specs.declared.fault.RulesError.TheVariants as reading
 use Rattle.frz_store.specs.Outside.{Rose}
 use Rattle.frz_store.specs.Told.{StoreTold, StoreFine}
 use Rattle.frz_store.specs.declared.outside.StoreFault.{StoreFault}
-use Rattle.frz_store.specs.declared.outside.StoreFault.TheVariants as store
+use Rattle.frz_table.specs.Faults.{fault_of as store_fault}
 use Rattle.frz_table.specs.declared.fault.TableFault.{TableFault}
 use Rattle.frz_table.specs.declared.fault.TableFault.TheVariants as table
 use Rattle.frz_atlas.specs.declared.fault.AtlasFault.{AtlasFault}
 use Rattle.frz_atlas.specs.declared.fault.AtlasFault.TheVariants.{Rules, Table, Back, Failed, NoMemory}
 use Rattle.frz_atlas.specs.declared.fault.BackFault.{BackFault}
 use Rattle.frz_atlas.specs.declared.fault.BackFault.TheVariants as one
-
-abbrev pub fault_of : StoreFault → AtlasFault
-fault_of store.Failed = Failed
-fault_of store.NoMemory = NoMemory
 
 abbrev pub rules_fault : RulesError → AtlasFault
 rules_fault (reading.Bad fault) = Rules fault
@@ -27,6 +23,10 @@ abbrev pub table_fault : TableFault → AtlasFault
 table_fault table.Failed = Failed
 table_fault table.NoMemory = NoMemory
 table_fault fault = Table fault
+
+-- the fault for a fault of the store
+abbrev pub fault_of : StoreFault → AtlasFault
+fault_of outside = table_fault (store_fault outside)
 
 -- the fault for a fault of the file behind it at this place
 abbrev pub back_fault : ℕ → BackFault → AtlasFault

@@ -63,10 +63,7 @@ impl From<StoreFault> for AtlasFault {
     ghost from_gives = { λ outside fault. fault ≡ fault_of outside };
 
     fn from(outside: StoreFault) -> AtlasFault {
-        match outside {
-            StoreFault::Failed => AtlasFault::Failed,
-            StoreFault::NoMemory => AtlasFault::NoMemory,
-        }
+        AtlasFault::of_table(TableFault::from(outside))
     }
 }
 

@@ -6,15 +6,11 @@ use Rattle.frz_rules.specs.declared.fault.RulesError.TheVariants as reading
 use Rattle.frz_store.specs.Outside.{Rose}
 use Rattle.frz_store.specs.Told.{StoreTold, StoreFine}
 use Rattle.frz_store.specs.declared.outside.StoreFault.{StoreFault}
-use Rattle.frz_store.specs.declared.outside.StoreFault.TheVariants as store
+use Rattle.frz_table.specs.Faults.{fault_of as store_fault}
 use Rattle.frz_table.specs.declared.fault.TableFault.{TableFault}
 use Rattle.frz_table.specs.declared.fault.TableFault.TheVariants as table
 use Rattle.frz_chain.specs.declared.fault.ChainFault.{ChainFault}
 use Rattle.frz_chain.specs.declared.fault.ChainFault.TheVariants.{Rules, Table, Back, Failed, NoMemory}
-
-abbrev pub fault_of : StoreFault → ChainFault
-fault_of store.Failed = Failed
-fault_of store.NoMemory = NoMemory
 
 abbrev pub rules_fault : RulesError → ChainFault
 rules_fault (reading.Bad fault) = Rules fault
@@ -25,6 +21,10 @@ abbrev pub table_fault : TableFault → ChainFault
 table_fault table.Failed = Failed
 table_fault table.NoMemory = NoMemory
 table_fault fault = Table fault
+
+-- the fault of a chain for a fault of the store
+abbrev pub fault_of : StoreFault → ChainFault
+fault_of outside = table_fault (store_fault outside)
 
 -- the fault of a chain for a fault of the back table's file
 abbrev pub back_fault : TableFault → ChainFault

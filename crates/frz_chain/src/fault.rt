@@ -54,10 +54,7 @@ impl From<StoreFault> for ChainFault {
     ghost from_gives = { λ outside fault. fault ≡ fault_of outside };
 
     fn from(outside: StoreFault) -> ChainFault {
-        match outside {
-            StoreFault::Failed => ChainFault::Failed,
-            StoreFault::NoMemory => ChainFault::NoMemory,
-        }
+        ChainFault::of_table(TableFault::from(outside))
     }
 }
 
