@@ -9,7 +9,8 @@ use Rattle.frz_commands_premises.proofs.Lemmas.{premises_lawful}
 use Rattle.frz_commands_why.specs.Asking.{why_words}
 use Rattle.atlas.specs.declared.verb.Verb.{Verb}
 use Rattle.atlas.specs.declared.verb.Verb.TheVariants.{Build, Check, Query, Each, Line, Play, Why, Premises, Report, Size}
-use Rattle.atlas.specs.Verbs.{command_of}
+use Rattle.frz_program.specs.Commands.{command_of}
+use Rattle.atlas.specs.Verbs.{verb_of}
 use Rattle.atlas.specs.Commands.{job_by, job_of}
 use Rattle.atlas.proofs.QueriesOnce.{query_lawful}
 
@@ -31,4 +32,4 @@ module _ (line_lawful : (words : List (List ℕ)) → IsLawful (line_words words
   by_command None = refused_lawful NoCommand
 
   pub lawful_of : (words : List (List ℕ)) → IsLawful (job_of words)
-  lawful_of words = by_command (command_of words)
+  lawful_of words = by_command (command_of verb_of words)

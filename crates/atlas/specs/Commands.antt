@@ -13,9 +13,10 @@ use Rattle.frz_commands_atlas.specs.Sizing.{size_words}
 use Rattle.frz_commands_journeys.specs.Journeying.{line_words, play_words}
 use Rattle.frz_commands_premises.specs.Premising.{premises_words}
 use Rattle.frz_commands_why.specs.Asking.{why_words}
+use Rattle.frz_program.specs.Commands.{command_of}
 use Rattle.atlas.specs.declared.verb.Verb.{Verb}
 use Rattle.atlas.specs.declared.verb.Verb.TheVariants.{Build, Check, Query, Each, Line, Play, Why, Premises, Report, Size}
-use Rattle.atlas.specs.Verbs.{command_of}
+use Rattle.atlas.specs.Verbs.{verb_of}
 
 -- the job of a command and the words behind it
 abbrev pub job_by : Option (Verb × List (List ℕ)) → Job
@@ -33,4 +34,4 @@ job_by None = refusing NoCommand
 
 -- the job of the program's words; without a command they are refused
 abbrev pub job_of : List (List ℕ) → Job
-job_of words = job_by (command_of words)
+job_of words = job_by (command_of verb_of words)

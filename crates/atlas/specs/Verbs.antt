@@ -1,6 +1,5 @@
 -- The names of the commands.
-use Rattle.std.specs.Prelude.{ℕ, List, [], ◌∷◌, Option, Some, None, if◌then◌else◌, codes}
-use Rattle.std.specs.Option.{option_map}
+use Rattle.std.specs.Prelude.{ℕ, List, Option, Some, None, if◌then◌else◌, codes}
 use Rattle.std.specs.Str.{bytes_eq}
 use Rattle.atlas.specs.declared.verb.Verb.{Verb}
 use Rattle.atlas.specs.declared.verb.Verb.TheVariants.{Build, Check, Query, Each, Line, Play, Why, Premises, Report, Size}
@@ -17,8 +16,3 @@ verb_of word =
     (if bytes_eq word (codes "premises") then Some Premises else
     (if bytes_eq word (codes "report") then Some Report else
     (if bytes_eq word (codes "size") then Some Size else None)))))))))
-
--- the command that the first word names, and the words behind it
-abbrev pub command_of : List (List ℕ) → Option (Verb × List (List ℕ))
-command_of [] = None
-command_of (word ∷ words) = option_map (λ verb. (verb, words)) (verb_of word)

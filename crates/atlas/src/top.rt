@@ -6,7 +6,7 @@ ghost use Rattle.frz_answer.specs.Ends.{Ran};
 ghost use Rattle.frz_answer.specs.Outcomes.{Outcome};
 ghost use Rattle.atlas.specs.Commands.{job_of};
 
-use crate::verb::{Verb, read_command};
+use crate::verb::Verb;
 use frz_answer::{End, Refusal, finish, refuse};
 use frz_commands_ask::query_kind;
 use frz_commands_atlas::{run_build, run_check, run_each, run_report, run_size};
@@ -16,6 +16,7 @@ use frz_commands_premises::run_premises;
 use frz_commands_why::laws::why_lawful;
 use frz_commands_why::run_why;
 use frz_prelude::tell;
+use frz_program::read_command;
 use frz_steps::Steps;
 use frz_store::{Sink, Source, Store};
 use frz_table::FileKind;

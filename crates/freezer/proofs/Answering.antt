@@ -16,7 +16,8 @@ use Rattle.frz_commands_table.proofs.Lemmas.{migrate_lawful}
 use Rattle.frz_commands_table.proofs.Lemmas.{sample_lawful}
 use Rattle.freezer.specs.declared.verb.Verb.{Verb}
 use Rattle.freezer.specs.declared.verb.Verb.TheVariants.{Solve, Moves, Sans, Move, Query, Line, Play, Check, Build, Migrate, Chain, ChainCheck, ChainQuery, Sample, Report}
-use Rattle.freezer.specs.Verbs.{command_of}
+use Rattle.frz_program.specs.Commands.{command_of}
+use Rattle.freezer.specs.Verbs.{verb_of}
 use Rattle.freezer.specs.Commands.{job_by, job_of}
 
 -- the laws of other crates that this one rests on
@@ -43,4 +44,4 @@ module _ (line_lawful : (later : ℕ → Files) (words : List (List ℕ))
   by_command None = refused_lawful NoCommand
 
   pub lawful_of : (words : List (List ℕ)) → IsLawful (job_of later words)
-  lawful_of words = by_command (command_of words)
+  lawful_of words = by_command (command_of verb_of words)

@@ -17,9 +17,10 @@ use Rattle.frz_commands_chess.specs.Moving.{move_words}
 use Rattle.frz_commands_table.specs.BuildMeaning.{build_words}
 use Rattle.frz_commands_table.specs.MigrateMeans.{migrate_words}
 use Rattle.frz_commands_table.specs.Sampling.{sample_words}
+use Rattle.frz_program.specs.Commands.{command_of}
 use Rattle.freezer.specs.declared.verb.Verb.{Verb}
 use Rattle.freezer.specs.declared.verb.Verb.TheVariants.{Solve, Moves, Sans, Move, Query, Line, Play, Check, Build, Migrate, Chain, ChainCheck, ChainQuery, Sample, Report}
-use Rattle.freezer.specs.Verbs.{command_of}
+use Rattle.freezer.specs.Verbs.{verb_of}
 
 -- the job of a command and the words behind it. `later k` is what the store holds when a file is
 -- read again after k plies
@@ -43,4 +44,4 @@ job_by later None = refusing NoCommand
 
 -- the job of the program's words; without a command they are refused
 abbrev pub job_of : (later : ℕ → Files) → List (List ℕ) → Job
-job_of later words = job_by later (command_of words)
+job_of later words = job_by later (command_of verb_of words)

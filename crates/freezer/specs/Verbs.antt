@@ -1,6 +1,5 @@
 -- The names of the commands.
-use Rattle.std.specs.Prelude.{ℕ, List, [], ◌∷◌, Option, Some, None, if◌then◌else◌, codes}
-use Rattle.std.specs.Option.{option_map}
+use Rattle.std.specs.Prelude.{ℕ, List, Option, Some, None, if◌then◌else◌, codes}
 use Rattle.std.specs.Str.{bytes_eq}
 use Rattle.freezer.specs.declared.verb.Verb.{Verb}
 use Rattle.freezer.specs.declared.verb.Verb.TheVariants.{Solve, Moves, Sans, Move, Query, Line, Play, Check, Build, Migrate, Chain, ChainCheck, ChainQuery, Sample, Report}
@@ -22,8 +21,3 @@ verb_of word =
     (if bytes_eq word (codes "chainquery") then Some ChainQuery else
     (if bytes_eq word (codes "sample") then Some Sample else
     (if bytes_eq word (codes "report") then Some Report else None))))))))))))))
-
--- the command that the first word names, and the words behind it
-abbrev pub command_of : List (List ℕ) → Option (Verb × List (List ℕ))
-command_of [] = None
-command_of (word ∷ words) = option_map (λ verb. (verb, words)) (verb_of word)

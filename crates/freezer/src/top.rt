@@ -8,7 +8,7 @@ ghost use Rattle.frz_answer.specs.Ends.{Ran};
 ghost use Rattle.frz_answer.specs.Outcomes.{Outcome};
 ghost use Rattle.freezer.specs.Commands.{job_of};
 
-use crate::verb::{Verb, read_command};
+use crate::verb::Verb;
 use frz_answer::{End, Refusal, finish, refuse};
 use frz_commands_ask::{chainquery, query, run_report, solve};
 use frz_commands_chain::{chain, chaincheck};
@@ -17,6 +17,7 @@ use frz_commands_line::laws::{one_line_answer, one_play_answer};
 use frz_commands_line::{run_line, run_play};
 use frz_commands_table::{build, check, migrate, run_sample};
 use frz_prelude::tell;
+use frz_program::read_command;
 use frz_steps::Steps;
 use frz_store::{Sink, Source, Store};
 use std::alloc::Global;
