@@ -1,5 +1,5 @@
 -- A table over several others that was loaded with them, or was not.
-use Rattle.std.proofs.Common.{◌≡◌, ap, subst, sym, ◌∙◌, ℕ, ◌+◌, ◌*◌, ◌≤◌, List, length, map, Option, Some, Ok, arith}
+use Rattle.std.proofs.Common.{◌≡◌, ap, subst, sym, ◌∙◌, ℕ, ◌+◌, ◌*◌, ◌≤◌, List, length, map, Option, Some, Result, Ok, arith}
 use Rattle.frz_board.specs.declared.man.Colour.TheVariants.{White}
 use Rattle.frz_rules.specs.Text.{rules_of}
 use Rattle.frz_sets.specs.Sets.{size_of}
@@ -10,51 +10,54 @@ use Rattle.frz_table.specs.declared.fault.TableFault.TheVariants.{Missing, Magic
 use Rattle.frz_table.specs.declared.kind.FileKind.TheVariants.{Atlas}
 use Rattle.frz_table.specs.Faults.{IsOutside}
 use Rattle.frz_table.specs.Layout.{pieces_of}
-use Rattle.frz_table.specs.Opening.{Contents, contents_of, opened, table_format}
+use Rattle.frz_table.specs.Opening.{Contents, Refuses, contents_of, opened, table_format}
 use Rattle.frz_table.specs.Possible.{MayKeep, MayOpen, MayRefuse}
 use Rattle.frz_table.specs.Tables.{Table, table_size}
-use Rattle.frz_table.proofs.Lemmas.{belongs}
+use Rattle.frz_table.proofs.Lemmas.{belongs, outside_refuses}
 use Rattle.frz_check.specs.Kept.{kept_codes}
 use Rattle.frz_check.proofs.Lemmas.{file_opens}
 use Rattle.frz_chain.specs.Books.{back_with}
 use Rattle.frz_backs.specs.Links.{Link}
 use Rattle.frz_backs.specs.Loaded.{link_loaded}
 use Rattle.frz_atlas.specs.Causes.{table_fault}
-use Rattle.frz_atlas.specs.Checking.{IsRefusedAtlas}
 use Rattle.frz_atlas.specs.Held.{MayHoldAll, all_held}
 use Rattle.frz_atlas.specs.Loading.{IsOneUnopened, LoadsAll, RefusesToLoad, WithinLoading}
-use Rattle.frz_atlas.specs.Reading.{IsUnopenedAtlas, LoadsAtlas, RefusesToRead, WithinReading}
+use Rattle.frz_atlas.specs.Reading.{IsUnopened, LoadsAtlas, RefusesToRead, WithinReading}
 use Rattle.frz_atlas.specs.declared.fault.AtlasFault.{AtlasFault}
 use Rattle.frz_atlas.specs.declared.fault.AtlasFault.TheVariants as atlas
 use Rattle.frz_atlas.specs.declared.fault.BackFault.TheVariants.{Refused, Wrong}
 use Rattle.frz_atlas.specs.declared.reading.LoadedAtlas.{LoadedAtlas}
 use Rattle.frz_atlas.proofs.AtlasChecked as checks
+use Rattle.frz_atlas.proofs.Behind.{may_hold_some, some_helds}
 
--- what refuses the table's own file to a check refuses it here
-own_refused : (held : Option (List ℕ)) (behind : List (Option (List ℕ))) (fault : TableFault)
-    → IsRefusedAtlas held behind (table_fault fault)
-    → IsUnopenedAtlas held behind (table_fault fault)
-own_refused held behind Missing h = h
-own_refused held behind Magic h = h
-own_refused held behind (Truncated length due) h = h
-own_refused held behind (Extra length due) h = h
-own_refused held behind (Rules fault) h = h
-own_refused held behind (Size kept due) h = h
-own_refused held behind Failed h = tt
-own_refused held behind NoMemory h = tt
+-- a refusal of the table's own file is one
+pub own_refused : (opened_as : Option (List ℕ) → Result Contents TableFault) (held : Option (List ℕ))
+    (behind : List (Option (List ℕ))) (fault : TableFault) → Refuses (opened_as held) fault
+    → IsUnopened opened_as held behind (table_fault fault)
+own_refused opened_as held behind Missing h = h
+own_refused opened_as held behind Magic h = h
+own_refused opened_as held behind (Truncated length due) h = h
+own_refused opened_as held behind (Extra length due) h = h
+own_refused opened_as held behind (Rules fault) h = h
+own_refused opened_as held behind (Size kept due) h = h
+own_refused opened_as held behind Failed h = tt
+own_refused opened_as held behind NoMemory h = tt
 
 -- the table was not opened
 pub not_opened : (table : List ℕ) (behind : List (List ℕ)) (old new : StoreTold)
     (fault : TableFault) → MayRefuse (table_format Atlas) table old new fault
     → RefusesToRead table behind old new (table_fault fault)
 not_opened table behind old new fault h =
-    let r = checks.not_opened table behind old new 0 fault h in record {
-      held = r.held;
-      may = r.may;
-      helds = r.helds;
-      may_all = r.may_all;
-      refuses = own_refused r.held r.helds fault r.refuses;
-      within = record { asked = r.within.asked; calls = r.within.calls };
+    let others = some_helds old.files behind in record {
+      held = h.held;
+      may = h.may;
+      helds = others;
+      may_all = may_hold_some old.files behind;
+      refuses = own_refused (opened (table_format Atlas)) h.held others fault h.refuses;
+      within = record {
+        asked = (let a = h.asked in omega (arith, a));
+        calls = (let a = h.calls in omega (arith, a));
+      };
     }
 
 -- what was asked for is within the costs of all files
@@ -74,7 +77,8 @@ within_all bytes contents helds old mid then new opens asked calls h more_asked 
 -- the table was opened, and one of those behind it refused
 behind_refused : (bytes : List ℕ) (contents : Contents) (helds : List (Option (List ℕ)))
     (fault : AtlasFault) → opened (table_format Atlas) (Some bytes) ≡ Ok contents
-    → IsOneUnopened helds fault → IsUnopenedAtlas (Some bytes) helds fault
+    → IsOneUnopened helds fault
+    → IsUnopened (opened (table_format Atlas)) (Some bytes) helds fault
 behind_refused bytes contents helds (atlas.Back place (Refused fault)) opens h =
     ((contents, opens), h)
 behind_refused bytes contents helds (atlas.Back place (Wrong wrong)) opens h = absurd h
@@ -113,8 +117,8 @@ module _ (table : Table) (name : List ℕ) (behind : List (List ℕ)) (old mid :
         may = opens.may;
         helds = helds;
         may_all = subst (λ (o : Option Files). MayHoldAll o behind helds) same h.may;
-        refuses = own_refused (Some opens.bytes) helds fault
-            (checks.outside_refused (Some opens.bytes) helds fault outside);
+        refuses = own_refused (opened (table_format Atlas)) (Some opens.bytes) helds fault
+            (outside_refuses (opened (table_format Atlas) (Some opens.bytes)) fault outside);
         within =
             within_all opens.bytes (contents_of table) helds old mid then new opens.opens asked
             calls h.within more_asked more_calls;

@@ -1,14 +1,15 @@
 -- A table over several others, loaded with all of them, and not checked.
-use Rattle.std.specs.Prelude.{◌≡◌, ◌≤◌, ◌+◌, ◌*◌, ℕ, List, length, map, sum_by, Option, Some, Ok, Err, ⊤}
+use Rattle.std.specs.Prelude.{◌≡◌, ◌≤◌, ◌+◌, ◌*◌, ℕ, List, length, map, sum_by, Option, Some, Result, Ok, Err, ⊤}
 use Rattle.frz_store.specs.Told.{StoreTold}
+use Rattle.frz_table.specs.declared.fault.TableFault.{TableFault}
 use Rattle.frz_table.specs.declared.kind.FileKind.TheVariants.{Atlas}
 use Rattle.frz_table.specs.Layout.{pieces_of}
-use Rattle.frz_table.specs.Opening.{contents_of, opened, opening_calls, table_format}
+use Rattle.frz_table.specs.Opening.{Contents, contents_of, opened, opening_calls, table_format}
 use Rattle.frz_table.specs.Possible.{MayHold, held_text}
 use Rattle.frz_chain.specs.FileOn.{back_of, loaded_back}
 use Rattle.frz_backs.specs.Loaded.{link_loaded}
 use Rattle.frz_atlas.specs.Behind.{TableBytes, link_of}
-use Rattle.frz_atlas.specs.Checking.{OpensAtlas, own_size}
+use Rattle.frz_atlas.specs.Checking.{own_size}
 use Rattle.frz_atlas.specs.Costs.{bytes_of, calls_of}
 use Rattle.frz_atlas.specs.Held.{MayHoldAll, all_held}
 use Rattle.frz_atlas.specs.Loading.{opened_all}
@@ -41,16 +42,17 @@ pub record LoadsAtlas (table : List ℕ) (behind : List (List ℕ)) (old new : S
   pub all_keep : map link_loaded loaded.backs.items ≡ map link_of tables
   pub within : WithinReading (Some bytes) (all_held tables) old new
 
--- the table's file is refused for this reason, or it opens and the first of those behind it that is
--- refused is so
-abbrev pub IsUnopenedAtlas : Option (List ℕ) → List (Option (List ℕ)) → AtlasFault → Type 0
-IsUnopenedAtlas held behind (Table fault) = opened (table_format Atlas) held ≡ Err fault
-IsUnopenedAtlas held behind (Back place (Refused fault)) =
-    OpensAtlas held × (opened_all behind ≡ Err (place, fault))
-IsUnopenedAtlas held behind (Back place (Wrong wrong)) = ⊥
-IsUnopenedAtlas held behind Failed = ⊤
-IsUnopenedAtlas held behind NoMemory = ⊤
-IsUnopenedAtlas held behind (Rules fault) = ⊥
+-- the table's file, opened in this way, is refused for this reason, or it opens and the first of
+-- those behind it that is refused is so; nothing is said where the store failed or memory ran out
+abbrev pub IsUnopened : (Option (List ℕ) → Result Contents TableFault) → Option (List ℕ)
+    → List (Option (List ℕ)) → AtlasFault → Type 0
+IsUnopened opened_as held behind (Table fault) = opened_as held ≡ Err fault
+IsUnopened opened_as held behind (Back place (Refused fault)) =
+    ((contents : Contents) × (opened_as held ≡ Ok contents)) × (opened_all behind ≡ Err (place, fault))
+IsUnopened opened_as held behind (Back place (Wrong wrong)) = ⊥
+IsUnopened opened_as held behind Failed = ⊤
+IsUnopened opened_as held behind NoMemory = ⊤
+IsUnopened opened_as held behind (Rules fault) = ⊥
 
 -- the names may hold what is refused for this reason
 pub record RefusesToRead (table : List ℕ) (behind : List (List ℕ)) (old new : StoreTold)
@@ -59,5 +61,5 @@ pub record RefusesToRead (table : List ℕ) (behind : List (List ℕ)) (old new 
   pub may : MayHold old.files table held
   pub helds : List (Option (List ℕ))
   pub may_all : MayHoldAll old.files behind helds
-  pub refuses : IsUnopenedAtlas held helds fault
+  pub refuses : IsUnopened (opened (table_format Atlas)) held helds fault
   pub within : WithinReading held helds old new

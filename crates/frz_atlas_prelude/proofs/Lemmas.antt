@@ -12,7 +12,7 @@ pub use Rattle.frz_atlas_prelude.proofs.HeldNames.{
 }
 pub use Rattle.frz_atlas_prelude.proofs.HeldTable.{Holds, apart_names_hold}
 pub use Rattle.frz_atlas_prelude.proofs.BackRefused.{back_line_not_empty, result_is_not_both}
-pub use Rattle.frz_atlas_prelude.proofs.SmallPlaces.{place_refused, small_refused, small_unopened, small_unread}
+pub use Rattle.frz_atlas_prelude.proofs.SmallPlaces.{place_refused, small_refused, small_unopened, small_unread, unopened_behind}
 pub use Rattle.frz_atlas_prelude.proofs.TablesOnce.{
   AllFound,
   all_exact,

@@ -1,12 +1,15 @@
 -- The place of a table that is refused is below the most that stand behind another.
-use Rattle.std.proofs.Common.{◌<◌, ◌≤◌, ℕ, List, [], length, Option, arith}
+use Rattle.std.proofs.Common.{◌<◌, ◌≤◌, ℕ, List, [], length, Option, Result, arith}
 use Rattle.frz_store.specs.Files.{Files}
 use Rattle.frz_store.specs.Told.{StoreTold}
+use Rattle.frz_table.specs.Opening.{Contents, opened, table_format}
+use Rattle.frz_table.specs.declared.fault.TableFault.{TableFault}
+use Rattle.frz_table.specs.declared.kind.FileKind.TheVariants.{Atlas}
 use Rattle.frz_atlas.specs.Behind.{IsRefusedAt}
 use Rattle.frz_atlas.specs.Held.{MayHoldAll}
 use Rattle.frz_atlas.specs.Loading.{IsOneUnopened, RefusesToLoad}
 use Rattle.frz_atlas.specs.Opening.{IsOneRefused, RefusesAll}
-use Rattle.frz_atlas.specs.Reading.{IsUnopenedAtlas, RefusesToRead}
+use Rattle.frz_atlas.specs.Reading.{IsUnopened, RefusesToRead}
 use Rattle.frz_atlas.specs.declared.fault.AtlasFault.{AtlasFault}
 use Rattle.frz_atlas.specs.declared.fault.AtlasFault.TheVariants.{Rules, Table, Back, Failed, NoMemory}
 use Rattle.frz_atlas.specs.declared.fault.BackFault.{BackFault}
@@ -43,16 +46,17 @@ module _ (behind : List (List ℕ)) (few : length behind ≤ MOST_BACKS) (told :
   one_unopened Failed h = tt
   one_unopened NoMemory h = tt
 
-  -- the same, behind a table
-  unopened_behind : (held : Option (List ℕ)) (fault : AtlasFault)
-      → IsUnopenedAtlas held helds fault → HasSmallPlace fault
-  unopened_behind held (Rules fault) h = tt
-  unopened_behind held (Table fault) h = tt
-  unopened_behind held (Back place (Refused fault)) h =
+  -- the same, behind a table that is opened in this way
+  pub unopened_behind : (opened_as : Option (List ℕ) → Result Contents TableFault)
+      (held : Option (List ℕ)) (fault : AtlasFault) → IsUnopened opened_as held helds fault
+      → HasSmallPlace fault
+  unopened_behind opened_as held (Rules fault) h = tt
+  unopened_behind opened_as held (Table fault) h = tt
+  unopened_behind opened_as held (Back place (Refused fault)) h =
       one_unopened (Back place (Refused fault)) h.1
-  unopened_behind held (Back place (Wrong wrong)) h = absurd h
-  unopened_behind held Failed h = tt
-  unopened_behind held NoMemory h = tt
+  unopened_behind opened_as held (Back place (Wrong wrong)) h = absurd h
+  unopened_behind opened_as held Failed h = tt
+  unopened_behind opened_as held NoMemory h = tt
 
 module _ (behind : List (List ℕ)) (few : length behind ≤ MOST_BACKS) (old new : StoreTold)
     (fault : AtlasFault) where
@@ -66,4 +70,5 @@ module _ (behind : List (List ℕ)) (few : length behind ≤ MOST_BACKS) (old ne
   pub small_unread : (table : List ℕ) → RefusesToRead table behind old new fault
       → HasSmallPlace fault
   small_unread table h =
-      unopened_behind behind few old.files h.helds h.may_all h.held fault h.refuses
+      unopened_behind behind few old.files h.helds h.may_all (opened (table_format Atlas)) h.held
+      fault h.refuses

@@ -25,7 +25,7 @@ use Rattle.frz_atlas.specs.Causes.{HasAtlasCause}
 use Rattle.frz_atlas.specs.Checking.{own_size}
 use Rattle.frz_atlas.specs.Held.{all_held}
 use Rattle.frz_atlas.specs.Loading.{opened_all}
-use Rattle.frz_atlas.specs.Reading.{IsUnopenedAtlas, LoadsAtlas, RefusesToRead, WithinReading}
+use Rattle.frz_atlas.specs.Reading.{IsUnopened, LoadsAtlas, RefusesToRead, WithinReading}
 use Rattle.frz_atlas.specs.declared.fault.AtlasFault.{AtlasFault}
 use Rattle.frz_atlas.specs.declared.fault.AtlasFault.TheVariants.{Rules, Table, Back as BackAt, Failed, NoMemory}
 use Rattle.frz_atlas.specs.declared.fault.BackFault.TheVariants.{Refused, Wrong}
@@ -193,7 +193,7 @@ module _ (table : List ℕ) (behind : List (List ℕ)) (apart : has_twice (table
       costs = refused_within_costs;
     }
 
-    may_end : (f : AtlasFault) → IsUnopenedAtlas r.held r.helds f
+    may_end : (f : AtlasFault) → IsUnopened (opened (table_format Atlas)) r.held r.helds f
         → HasAtlasCause {T = LoadedAtlas} (Err f) old new
         → MayEndAt (reporting_at table behind) f start mid
     may_end (Rules f) refused cause = absurd refused
@@ -209,7 +209,7 @@ module _ (table : List ℕ) (behind : List (List ℕ)) (apart : has_twice (table
     may_end Failed refused cause = (refl, cause)
     may_end NoMemory refused cause = refl
 
-    answers_at : (f : AtlasFault) → IsUnopenedAtlas r.held r.helds f → (files : Files)
+    answers_at : (f : AtlasFault) → IsUnopened (opened (table_format Atlas)) r.held r.helds f → (files : Files)
         (left : List ℕ) → Agrees start files left
         → AnswersAt (reporting_at table behind) f files left start mid
     answers_at (Rules f) refused files left agrees = absurd refused

@@ -12,7 +12,7 @@ use Rattle.frz_table.specs.Opening.{Contents, opened, table_format}
 use Rattle.frz_atlas.specs.Behind.{TableBytes}
 use Rattle.frz_atlas.specs.Causes.{HasAtlasCause}
 use Rattle.frz_atlas.specs.Loading.{opened_all}
-use Rattle.frz_atlas.specs.Reading.{IsUnopenedAtlas, RefusesToRead}
+use Rattle.frz_atlas.specs.Reading.{IsUnopened, RefusesToRead}
 use Rattle.frz_atlas.specs.declared.fault.AtlasFault.{AtlasFault}
 use Rattle.frz_atlas.specs.declared.fault.AtlasFault.TheVariants.{Rules, Table, Back as BackAt, Failed, NoMemory}
 use Rattle.frz_atlas.specs.declared.fault.BackFault.TheVariants.{Refused, Wrong}
@@ -127,7 +127,7 @@ module _ (there : JourneyThere) (player : Player) (table : List ℕ) (behind : L
     costs = costs_no_steps (heard_by player.opponent left);
   }
 
-  may_end : (f : AtlasFault) → IsUnopenedAtlas r.held r.helds f
+  may_end : (f : AtlasFault) → IsUnopened (opened (table_format Atlas)) r.held r.helds f
       → HasAtlasCause {T = LoadedAtlas} (Err f) old new → MayEndAt job f start mid
   may_end (Rules f) refused cause = absurd refused
   may_end (Table f) refused cause = (
@@ -142,7 +142,7 @@ module _ (there : JourneyThere) (player : Player) (table : List ℕ) (behind : L
   may_end Failed refused cause = (refl, cause)
   may_end NoMemory refused cause = refl
 
-  answers_at : (f : AtlasFault) → IsUnopenedAtlas r.held r.helds f → (m : Files)
+  answers_at : (f : AtlasFault) → IsUnopened (opened (table_format Atlas)) r.held r.helds f → (m : Files)
       (left : List ℕ) → Agrees start m left → AnswersAt job f m left start mid
   answers_at (Rules f) refused m left agrees = absurd refused
   answers_at (Table f) refused m left agrees = record {

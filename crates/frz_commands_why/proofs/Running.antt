@@ -25,6 +25,7 @@ use Rattle.frz_atlas.specs.Behind.{TableBytes, backs_in, leans}
 use Rattle.frz_atlas.specs.Causes.{HasAtlasCause}
 use Rattle.frz_atlas.specs.Held.{all_held}
 use Rattle.frz_atlas.specs.Loading.{opened_all, opened_own}
+use Rattle.frz_atlas.specs.Reading.{IsUnopened}
 use Rattle.frz_atlas.specs.declared.fault.AtlasFault.{AtlasFault}
 use Rattle.frz_atlas.specs.declared.fault.AtlasFault.TheVariants.{Rules, Table, Back as BackAt, Failed, NoMemory}
 use Rattle.frz_atlas.specs.declared.fault.BackFault.TheVariants.{Refused, Wrong}
@@ -48,7 +49,7 @@ use Rattle.frz_commands_why.specs.Asking.{asking_at}
 use Rattle.frz_commands_why.specs.Costs.{steps_by, why_costs}
 use Rattle.frz_commands_why.specs.Deciders.{decider_of, leaning_on}
 use Rattle.frz_commands_why.specs.Ending.{EndsIn, EndsEarly, EndsLoaded, codes_loaded, stepping_in}
-use Rattle.frz_commands_why.specs.Loading.{IsUnopened, LoadsTables, RefusesTables, WithinOwn}
+use Rattle.frz_commands_why.specs.Loading.{LoadsTables, RefusesTables, WithinOwn}
 use Rattle.frz_commands_why.specs.Telling.{EndsWhy, telling_steps, why_text}
 use Rattle.frz_commands_why.specs.Texts.{status_by}
 use Rattle.frz_commands_why.specs.WhyOf.{IsWhyAnswer, IsWhyAt, IsWhyBy, IsWhyOver, code_at, decider_behind, value_behind}
@@ -301,7 +302,7 @@ module _ (there : WayThere) (table : List ℕ) (behind : List (List ℕ))
         → Begun job files left start mid
     refusal_begun = some_answer_begun r.held r.helds k r.within no_steps
 
-    may_end : (f : AtlasFault) → IsUnopened r.held r.helds f
+    may_end : (f : AtlasFault) → IsUnopened opened_own r.held r.helds f
         → HasAtlasCause {T = ℕ} (Err f) old new → MayEndAt job f start mid
     may_end (Rules f) refused cause = absurd refused
     may_end (Table f) refused cause =
@@ -312,7 +313,7 @@ module _ (there : WayThere) (table : List ℕ) (behind : List (List ℕ))
     may_end Failed refused cause = (refl, cause)
     may_end NoMemory refused cause = refl
 
-    answers_at : (f : AtlasFault) → IsUnopened r.held r.helds f → (files : Files)
+    answers_at : (f : AtlasFault) → IsUnopened opened_own r.held r.helds f → (files : Files)
         (left : List ℕ) → Agrees start files left → AnswersAt job f files left start mid
     answers_at (Rules f) refused files left agrees = absurd refused
     answers_at (Table f) refused files left agrees = record {

@@ -1,5 +1,5 @@
 -- A table and those behind it, each opened as its own kind and loaded, and not checked.
-use Rattle.std.specs.Prelude.{◌≡◌, ◌≤◌, ◌+◌, ℕ, List, map, sum_by, Option, Some, Ok, Err, ⊤}
+use Rattle.std.specs.Prelude.{◌≡◌, ◌≤◌, ◌+◌, ℕ, List, map, sum_by, Option, Some, Ok}
 use Rattle.frz_store.specs.Told.{StoreTold}
 use Rattle.frz_table.specs.Opening.{Contents, contents_of}
 use Rattle.frz_table.specs.Possible.{MayHold}
@@ -9,9 +9,8 @@ use Rattle.frz_atlas.specs.Behind.{TableBytes, link_of}
 use Rattle.frz_atlas.specs.Costs.{bytes_of, calls_of}
 use Rattle.frz_atlas.specs.Held.{MayHoldAll, all_held}
 use Rattle.frz_atlas.specs.Loading.{opened_all, opened_own}
+use Rattle.frz_atlas.specs.Reading.{IsUnopened}
 use Rattle.frz_atlas.specs.declared.fault.AtlasFault.{AtlasFault}
-use Rattle.frz_atlas.specs.declared.fault.AtlasFault.TheVariants.{Rules, Table, Back, Failed, NoMemory}
-use Rattle.frz_atlas.specs.declared.fault.BackFault.TheVariants.{Refused, Wrong}
 
 -- the calls and bytes of opening and loading what the names hold
 abbrev pub own_calls : Option (List ℕ) → List (Option (List ℕ)) → ℕ
@@ -45,17 +44,6 @@ pub record LoadsTables (table : List ℕ) (behind : List (List ℕ)) (old new : 
 abbrev pub OpensOwn : Option (List ℕ) → Type 0
 OpensOwn held = (contents : Contents) × (opened_own held ≡ Ok contents)
 
--- the table's file is refused for this reason, or it opens and the first of those behind it that is
--- refused is so; nothing is said where the store failed or memory ran out
-abbrev pub IsUnopened : Option (List ℕ) → List (Option (List ℕ)) → AtlasFault → Type 0
-IsUnopened held behind (Table fault) = opened_own held ≡ Err fault
-IsUnopened held behind (Back place (Refused fault)) =
-    OpensOwn held × (opened_all behind ≡ Err (place, fault))
-IsUnopened held behind (Back place (Wrong wrong)) = ⊥
-IsUnopened held behind Failed = ⊤
-IsUnopened held behind NoMemory = ⊤
-IsUnopened held behind (Rules fault) = ⊥
-
 -- the names may hold what is refused for this reason
 pub record RefusesTables (table : List ℕ) (behind : List (List ℕ)) (old new : StoreTold)
     (fault : AtlasFault) : Type 0 where
@@ -63,5 +51,5 @@ pub record RefusesTables (table : List ℕ) (behind : List (List ℕ)) (old new 
   pub may : MayHold old.files table held
   pub helds : List (Option (List ℕ))
   pub may_all : MayHoldAll old.files behind helds
-  pub refuses : IsUnopened held helds fault
+  pub refuses : IsUnopened opened_own held helds fault
   pub within : WithinOwn held helds old new
