@@ -12,7 +12,7 @@ use Rattle.frz_ways.specs.WayEnds.{IsAnswerOf}
 use Rattle.frz_ways.proofs.Lemmas.{took_none}
 use Rattle.frz_commands_line.proofs.Lemmas.{rest_left}
 use Rattle.frz_commands_journeys.specs.JourneyOf.{heard_by}
-use Rattle.frz_commands_journeys.specs.Journeying.{input_with, takes_input}
+use Rattle.frz_commands_line.specs.WayJobs.{input_with, takes_input}
 
 -- of what was heard, these bytes were taken from the command's input
 pub record Hears (opponent : Opponent) (whole took : List ℕ) (answer : Result WayEnd PlayFault)

@@ -33,7 +33,8 @@ use Rattle.frz_journeys.specs.Playing.{TellsJourney}
 use Rattle.frz_commands_line.proofs.Lemmas.{by_member}
 use Rattle.frz_commands_journeys.specs.Endings.{EndsJourney, HasNearPlace, IsNear}
 use Rattle.frz_commands_journeys.specs.JourneyOf.{leaning}
-use Rattle.frz_commands_journeys.specs.Journeying.{input_with, journeying_at}
+use Rattle.frz_commands_line.specs.WayJobs.{input_with}
+use Rattle.frz_commands_journeys.specs.Journeying.{journeying_at}
 use Rattle.frz_commands_journeys.proofs.InputHeard.{hears_what_it_took}
 use Rattle.frz_commands_journeys.proofs.TablesLoaded.{told_by_files}
 use Rattle.frz_commands_journeys.proofs.Near.{near_there}

@@ -51,12 +51,12 @@ use Rattle.frz_journeys.specs.Arrivals.{Arrives, Finishes, StopsShort}
 use Rattle.frz_journeys.specs.Journeys.{IsJourney, Stage}
 use Rattle.frz_journeys.specs.JourneyTexts.{journey_text}
 use Rattle.frz_journeys.specs.Playing.{TellsJourney, turns_in}
-use Rattle.frz_commands_line.proofs.Lemmas.{by_member, cut_within, lines_came, not_member, quiet_then, rest_after, unfailed_source}
+use Rattle.frz_commands_line.proofs.Lemmas.{after_lines, by_member, cut_within, ended_as, lines_came, not_member, once_is_not, quiet_then, rest_after, unfailed_source}
 use Rattle.frz_commands_journeys.specs.Costs.{CostsAt, StepsBy, journey_costs}
 use Rattle.frz_commands_journeys.specs.Endings.{EndsJourney, answer_status, naming}
 use Rattle.frz_commands_journeys.specs.JourneyOf.{IsJourneyBy, IsPlayed, IsPlayedAt, IsPlayedBy, IsPlayedOver, heard_by, journey_answer, leaning, played_text}
-use Rattle.frz_commands_journeys.specs.Journeying.{journeying_at, statuses_of, takes_input}
-use Rattle.frz_commands_journeys.proofs.Behind.{after_lines, once_is_not}
+use Rattle.frz_commands_line.specs.WayJobs.{takes_input}
+use Rattle.frz_commands_journeys.specs.Journeying.{journeying_at, statuses_of}
 use Rattle.frz_commands_journeys.proofs.InputHeard.{Hears, chosen, heard_whole, may_rest, may_whole, none_taken, split_there, untaken_is_free}
 use Rattle.frz_commands_journeys.proofs.Texts.{SomeArrival, arrival_of, fault_said, short_said, some_stages}
 
@@ -380,8 +380,7 @@ module _ (player : Player) (table : List ℕ) (behind_it : List (List ℕ)) (p :
       -- the sink failed within the journey
       cut_short : FailedWithin text out mid → source.faults ≤ gone.faults
           → Ran job SinkFault old played
-      cut_short failed fell =
-          cut_within job text took old (world left gone out now) mid refl
+      cut_short failed fell = cut_within job text took old (world left gone out now) mid refl
           (record { store = quiet.later; input = fell; out = omega arith; steps = later })
           quiet.unwritten heard.bytes.behind failed
           (λ m free agrees.
@@ -429,13 +428,6 @@ module _ (player : Player) (table : List ℕ) (behind_it : List (List ℕ)) (p :
             (within_steps 0 (omega (arith, steps_is))));
       }))
 
-  -- a fault ended the command, and nothing more was written
-  ended_as : (end wanted : End) → (end ≡ wanted) × (taken ≡ mid) → Ran job wanted old played
-      → Ran job end old (world left gone taken now)
-  ended_as end wanted ends ran =
-      subst (λ (o : SinkTold). Ran job end old (world left gone o now)) (sym ends.1)
-      (subst (λ (e : End). Ran job e old played) (sym ends.0) ran)
-
   -- what was written and taken of a journey against what was heard
   module _ (inside : Member contents.rules.groups p) (text took whole : List ℕ)
       (lines : IsLines text) (place : Place) (end : End) where
@@ -465,11 +457,11 @@ module _ (player : Player) (table : List ℕ) (behind_it : List (List ℕ)) (p :
         absurd (fault_said player.side so.stages place (plays.Line faults.NoMemory) so.finishes.0
         refl)
     told_inside (Err plays.Input) kind heard never ends wrote so =
-        ended_as end (Stopped stops.Input) ends
+        ended_as job old played taken end (Stopped stops.Input) ends
         (stopped_short inside text took whole lines so heard wrote kind heard.cause so.finishes)
     told_inside (Err (plays.Line faults.Output)) kind heard never ends wrote so =
         let same = heard.cause in
-        ended_as end SinkFault ends
+        ended_as job old played taken end SinkFault ends
         (cut_short inside text took whole lines so heard wrote (omega (arith, same)))
 
   -- what a journey wrote and took of what was heard

@@ -2,7 +2,6 @@ mod Texts
 mod Near
 mod LineUnstopped
 mod InputHeard
-mod Behind
 mod TablesLoaded
 mod JourneyEnds
 mod Some

@@ -1,10 +1,9 @@
 -- What `line TABLE FEN SIDE BACK ..` and `play TABLE FEN SIDE BACK ..` are to do.
-use Rattle.std.specs.Prelude.{ℕ, List, [], ◌∷◌, map, Bool, true, false}
+use Rattle.std.specs.Prelude.{ℕ, List, [], ◌∷◌, map, true}
 use Rattle.frz_board.specs.Boards.{Board}
 use Rattle.frz_board.specs.declared.man.Colour.{Colour}
 use Rattle.frz_fen.specs.Reading.{fen_of}
 use Rattle.frz_store.specs.Files.{Files}
-use Rattle.frz_store.specs.Told.{SourceTold}
 use Rattle.frz_answer.specs.declared.status.Status.{Status}
 use Rattle.frz_answer.specs.declared.status.Status.TheVariants.{Success, Wrong, Table, Outside, Missing, Limit}
 use Rattle.frz_answer.specs.Answers.{Answer}
@@ -12,6 +11,7 @@ use Rattle.frz_answer.specs.Jobs.{Job, Once, plain}
 use Rattle.frz_prelude.specs.Positions.{on_position}
 use Rattle.frz_atlas_prelude.specs.Asked.{AskedNames, asked_words}
 use Rattle.frz_commands_line.specs.Sides.{on_side, side_of}
+use Rattle.frz_commands_line.specs.WayJobs.{takes_input}
 use Rattle.frz_ways.specs.declared.opponent.Opponent.{Opponent}
 use Rattle.frz_ways.specs.declared.opponent.Opponent.TheVariants as opponents
 use Rattle.frz_ways.specs.declared.opponent.Player.{Player}
@@ -19,11 +19,7 @@ use Rattle.frz_commands_journeys.specs.Costs.{CostsAt}
 use Rattle.frz_commands_journeys.specs.JourneyOf.{heard_by, IsPlayedAt}
 use Rattle.frz_commands_journeys.specs.Meaning.{MeansLine, MeansPlay}
 
--- only a session takes input, and meets its limits
-abbrev pub takes_input : Opponent → Bool
-takes_input opponents.Codes = false
-takes_input opponents.Input = true
-
+-- only a session meets the limits of its input
 abbrev pub statuses_of : Opponent → List Status
 statuses_of opponents.Codes = Success ∷ Wrong ∷ Table ∷ Outside ∷ Missing ∷ []
 statuses_of opponents.Input = Success ∷ Wrong ∷ Table ∷ Outside ∷ Missing ∷ Limit ∷ []
@@ -67,12 +63,6 @@ journeying_named opponent names =
 -- there is at least one BACK
 abbrev pub journey_words : Opponent → List (List ℕ) → Job
 journey_words opponent words = asked_words 1 (journeying_named opponent) words
-
--- what is told of the command's input, where the journey is played against an input that tells
--- this: a line has an input of its own, and leaves the command's, which may tell any other
-abbrev pub input_with : Opponent → (played other : SourceTold) → SourceTold
-input_with opponents.Codes played other = other
-input_with opponents.Input played other = played
 
 -- line TABLE FEN SIDE BACK ..
 abbrev pub line_words : List (List ℕ) → Job

@@ -3,15 +3,15 @@ ghost use Rattle.std.specs.Prelude.{◌≡◌, ◌≤◌, ◌∷◌, [], length,
 ghost use Rattle.std.specs.String.{string_bytes};
 ghost use Rattle.frz_fide.specs.Valid.{IsValid};
 ghost use Rattle.frz_fen.specs.Reading.{fen_of};
-ghost use Rattle.frz_store.specs.Told.{SourceTold, store_of, source_of, sink_of};
-ghost use Rattle.frz_answer.specs.World.{world};
-ghost use Rattle.frz_answer.specs.Ends.{Ran};
+ghost use Rattle.frz_store.specs.Told.{source_of};
+ghost use Rattle.frz_answer.specs.World.{world_of};
 ghost use Rattle.frz_prelude.specs.Positions.{on_position};
 ghost use Rattle.frz_atlas_prelude.specs.Names.{has_twice as is_twice};
 ghost use Rattle.frz_atlas_prelude.specs.declared.names.TheConstants.{MOST_BACKS};
 ghost use Rattle.frz_commands_line.specs.Sides.{on_side, side_of};
+ghost use Rattle.frz_commands_line.specs.WayJobs.{RanBeside};
 ghost use Rattle.frz_ways.specs.declared.opponent.Opponent.TheVariants as opponents;
-ghost use Rattle.frz_commands_journeys.specs.Journeying.{input_with, journey_words, journeying_at, journeying_for};
+ghost use Rattle.frz_commands_journeys.specs.Journeying.{journey_words, journeying_at, journeying_for};
 
 use crate::ending::end_of_journey;
 use frz_answer::{End, refuse};
@@ -46,14 +46,10 @@ fn play_at<S: Store, I: Source, O: Sink, L: Ledger>(
     requires few { length (map string_bytes names.now.behind.now) ≤ MOST_BACKS }
     requires silent { player.opponent ≡ opponents.Codes
         → (source_of I.Source input.old).left ≡ Some [] }
-    ensures ran { (other : SourceTold) → Ran (journeying_at player names.now.table.now
+    ensures ran { RanBeside player.opponent (journeying_at player names.now.table.now
         (map string_bytes names.now.behind.now) p.now) result
-        (world (store_of S.Store store.old)
-        (input_with player.opponent (source_of I.Source input.old) other)
-        (sink_of O.Sink out.old) steps.old)
-        (world (store_of S.Store store.new)
-        (input_with player.opponent (source_of I.Source input.new) other)
-        (sink_of O.Sink out.new) steps.new) }
+        (world_of S.Store I.Source O.Sink store.old input.old out.old steps.old)
+        (world_of S.Store I.Source O.Sink store.new input.new out.new steps.new) }
     ensures unread { player.opponent ≡ opponents.Codes → input.new ≡ input.old }
 {
     one_journey();
@@ -80,14 +76,10 @@ fn play_from<S: Store, I: Source, O: Sink, L: Ledger>(
     requires few { length (map string_bytes names.now.behind.now) ≤ MOST_BACKS }
     requires silent { player.opponent ≡ opponents.Codes
         → (source_of I.Source input.old).left ≡ Some [] }
-    ensures ran { (other : SourceTold) → Ran (on_position (journeying_at player
+    ensures ran { RanBeside player.opponent (on_position (journeying_at player
         names.now.table.now (map string_bytes names.now.behind.now)) (fen_of names.now.fen.now)) result
-        (world (store_of S.Store store.old)
-        (input_with player.opponent (source_of I.Source input.old) other)
-        (sink_of O.Sink out.old) steps.old)
-        (world (store_of S.Store store.new)
-        (input_with player.opponent (source_of I.Source input.new) other)
-        (sink_of O.Sink out.new) steps.new) }
+        (world_of S.Store I.Source O.Sink store.old input.old out.old steps.old)
+        (world_of S.Store I.Source O.Sink store.new input.new out.new steps.new) }
     ensures store_unused { (on_position (journeying_at player names.now.table.now
         (map string_bytes names.now.behind.now)) (fen_of names.now.fen.now)).needs.store ≡ false
         → store.new ≡ store.old }
@@ -114,14 +106,10 @@ fn play_for<S: Store, I: Source, O: Sink, L: Ledger>(
     requires apart { is_twice (names.now.table.now ∷ map string_bytes names.now.behind.now) ≡ false }
     requires few { length (map string_bytes names.now.behind.now) ≤ MOST_BACKS }
     requires silent { opponent ≡ opponents.Codes → (source_of I.Source input.old).left ≡ Some [] }
-    ensures ran { (other : SourceTold) → Ran (journeying_for opponent names.now.table.now
+    ensures ran { RanBeside opponent (journeying_for opponent names.now.table.now
         (map string_bytes names.now.behind.now) names.now.fen.now names.now.side.now) result
-        (world (store_of S.Store store.old)
-        (input_with opponent (source_of I.Source input.old) other)
-        (sink_of O.Sink out.old) steps.old)
-        (world (store_of S.Store store.new)
-        (input_with opponent (source_of I.Source input.new) other)
-        (sink_of O.Sink out.new) steps.new) }
+        (world_of S.Store I.Source O.Sink store.old input.old out.old steps.old)
+        (world_of S.Store I.Source O.Sink store.new input.new out.new steps.new) }
     ensures store_unused { (journeying_for opponent names.now.table.now
         (map string_bytes names.now.behind.now) names.now.fen.now names.now.side.now).needs.store
         ≡ false → store.new ≡ store.old }
@@ -150,14 +138,9 @@ pub fn run_journey<S: Store, I: Source, O: Sink, L: Ledger>(
     steps: &mut Steps<L>,
 ) -> End
     requires silent { opponent ≡ opponents.Codes → (source_of I.Source input.old).left ≡ Some [] }
-    ensures ran { (other : SourceTold) →
-        Ran (journey_words opponent (map string_bytes words.now)) result
-        (world (store_of S.Store store.old)
-        (input_with opponent (source_of I.Source input.old) other)
-        (sink_of O.Sink out.old) steps.old)
-        (world (store_of S.Store store.new)
-        (input_with opponent (source_of I.Source input.new) other)
-        (sink_of O.Sink out.new) steps.new) }
+    ensures ran { RanBeside opponent (journey_words opponent (map string_bytes words.now)) result
+        (world_of S.Store I.Source O.Sink store.old input.old out.old steps.old)
+        (world_of S.Store I.Source O.Sink store.new input.new out.new steps.new) }
     ensures store_unused { (journey_words opponent (map string_bytes words.now)).needs.store ≡ false
         → store.new ≡ store.old }
     ensures input_unused { (journey_words opponent (map string_bytes words.now)).needs.input ≡ false

@@ -1,36 +1,16 @@
--- A command that writes lines and takes input before its end is known.
+-- What a command that wrote lines has taken of its input, and what is left of it.
 use Rattle.std.proofs.Common.{◌≡◌, refl, sym, ap, subst, ◌∙◌, ℕ, List, ◌++◌, ◌≤◌, drop, length, Bool, true, false, IsTrue, Option, Some, None, arith}
-use Rattle.std.specs.Prelude.{IfSome, ⊤}
+use Rattle.std.specs.Prelude.{IfSome}
 use Rattle.std.specs.Option.{option_map}
 use Rattle.std.proofs.Math.Seq.{drop-append_seam}
 use Rattle.frz_store.specs.Bytes.{MayBeHeld}
 use Rattle.frz_store.specs.Files.{Files}
 use Rattle.frz_store.specs.Told.{StoreTold, SourceTold, SinkTold, StoreQuiet}
-use Rattle.frz_answer.specs.declared.end.End.{End}
-use Rattle.frz_answer.specs.Statuses.{subset}
 use Rattle.frz_answer.specs.Texts.{TookText}
-use Rattle.frz_answer.specs.World.{World, world, Came, Quiet, spent}
-use Rattle.frz_answer.specs.Answers.{Answer, behind, IsLines}
+use Rattle.frz_answer.specs.World.{World, world, Came, Quiet}
 use Rattle.frz_answer.specs.Jobs.{Job}
-use Rattle.frz_answer.specs.Ends.{Ran}
-use Rattle.frz_answer.proofs.Lemmas.{Found, follows, text_came}
+use Rattle.frz_answer.proofs.Lemmas.{Found, text_came}
 use Rattle.frz_ways.specs.SessionFaults.{TookBytes}
-use Rattle.frz_commands_line.proofs.Stages.{is_part}
-
--- what is left to do of a job behind this text and these bytes
-abbrev pub rest_after : Job → List ℕ → List ℕ → Job
-rest_after job text bytes = record job {
-  answers = λ files input a. job.answers files (bytes ++ input) (behind text (length bytes) a);
-  means = λ _ _ _. ⊤;
-  costs = λ files input a. job.costs files (bytes ++ input) (behind text (length bytes) a);
-}
-
--- an input that may be the one that is told, and begins with these bytes
-pub record Split (bytes : List ℕ) (left : Option (List ℕ)) : Type 0 where
-  pub input : List ℕ
-  pub rest : List ℕ
-  pub may : IfSome left (λ told. told ≡ input)
-  pub split : bytes ++ rest ≡ input
 
 pub never_both : {A : Type 0} (b : Bool) → b ≡ true → b ≡ false → A
 never_both b e f = let no : true ≡ false = sym e ∙ f in cc
@@ -46,30 +26,6 @@ found_in job files free old input takes there may = record {
   free = λ e. refl;
   untaken = λ e. never_both job.needs.input takes e;
 }
-
--- the rest was done behind these lines and bytes
-pub after_lines : (job : Job) (text bytes : List ℕ) (end : End) (old mid new : World)
-    → Came text bytes old mid → IsLines text → IsTrue job.speaks → IsTrue job.needs.input
-    → subset job.statuses job.statuses ≡ true
-    → ((files : Files)
-    → MayBeHeld old.store.files files → Split bytes old.input.left)
-    → ((m : Files) (i : List ℕ) (a : Answer) → (rest_after job text bytes).costs m i a (spent mid)
-    (spent new) → job.costs m (bytes ++ i) (behind text (length bytes) a) (spent old)
-    (spent new))
-    → Ran (rest_after job text bytes) end mid new → Ran job end old new
-after_lines job text bytes end old mid new came lines speaks takes all split costs ran =
-    follows (rest_after job text bytes) job text bytes old mid new came lines speaks
-    (is_part job job.statuses all) end
-    (λ e. (let no : true ≡ false = sym takes ∙ e in cc))
-    (λ files input agrees.
-    let here = split files agrees.store in record {
-      found = found_in job files input old here.input takes agrees.store here.may;
-      rest = here.rest;
-      split = here.split;
-      answers = λ m i a fits free untaken answer. answer;
-      costs = λ m i a fits free untaken answer spent. costs m i a spent;
-    })
-    ran
 
 -- what is left behind the bytes, where it is told, is the rest
 pub rest_left : (bytes rest input : List ℕ) (old mid : Option (List ℕ)) → bytes ++ rest ≡ input

@@ -1,7 +1,5 @@
 -- What is known of a line that was played, by the file that the store tells.
-use Rattle.std.proofs.Common.{◌≡◌, refl, sym, subst, ◌∙◌, ℕ, List, [], ◌++◌, Bool, true, false, Option, Some, None, Result, IfSome}
-use Rattle.std.specs.Prelude.{IsSome, IsSomeAnd, MatchBool}
-use Rattle.std.specs.Option.{option_map, unwrap_or}
+use Rattle.std.proofs.Common.{◌≡◌, refl, sym, subst, ◌∙◌, ℕ, List, ◌++◌, Bool, true, false, Result}
 use Rattle.frz_board.specs.declared.man.Colour.{Colour}
 use Rattle.frz_board.specs.Boards.{Board}
 use Rattle.frz_sets.specs.declared.exit.Value.{Value}
@@ -11,23 +9,16 @@ use Rattle.frz_index.specs.Members.{Member, Num}
 use Rattle.frz_index.proofs.Lemmas.{member_of, of_member}
 use Rattle.frz_game.specs.Games.{graph_by}
 use Rattle.frz_game.specs.Numbers.{is_member}
-use Rattle.frz_store.specs.Files.{Files, bytes_at}
-use Rattle.frz_table.specs.Layout.{codes_at}
-use Rattle.frz_table.specs.Opening.{Contents, contents_of}
-use Rattle.frz_table.specs.Tables.{Table, Carries, IsFileOf, table_size}
+use Rattle.frz_table.specs.Opening.{Contents}
 use Rattle.frz_answer.specs.World.{Spent}
-use Rattle.frz_answer.specs.Answers.{Answer, says}
-use Rattle.frz_prelude.specs.Refusals.{status_of, refusal_line}
-use Rattle.frz_prelude.specs.declared.refused.Refused.TheVariants as refusals
 use Rattle.frz_ways.specs.declared.end.LineEnd.{LineEnd}
 use Rattle.frz_ways.specs.declared.end.LineFault.{LineFault}
 use Rattle.frz_ways.specs.BestLine.{TellsLine}
 use Rattle.frz_ways.specs.Costs.{SpendsAt}
 use Rattle.frz_ways.specs.Ends.{told, Finishes}
-use Rattle.frz_ways.specs.Kept.{told_codes}
 use Rattle.frz_ways.specs.Lines.{LinePly, EndOfLine, IsLine}
 use Rattle.frz_ways.specs.Texts.{line_text}
-use Rattle.frz_commands_line.specs.LineOf.{code_at, codes_later, IsLineBy, LineComes, line_answer, IsLined, IsLinedIn}
+use Rattle.frz_commands_line.specs.LineOf.{code_at, codes_later, IsLineBy, LineComes}
 
 -- that there is a line from each number
 abbrev pub LineThere : Type 0
@@ -52,24 +43,6 @@ not_member groups p none = by_test (is_member groups p) refl
     by_test : (b : Bool) → is_member groups p ≡ b → b ≡ false
     by_test true e = absurd (none (member_of groups p e))
     by_test false e = refl
-
--- the answer at a position of the set, and at one that is outside
-module _ (contents : Contents) (bytes : ℕ → List ℕ) (side : Colour) (p : Board) (files : Files)
-    (a : Answer) where
-  pub lined_inside : Member contents.rules.groups p → IsLined contents bytes side p files a
-      → IsLinedIn contents bytes side p files a
-  lined_inside inside lined =
-      subst (λ b. MatchBool b (IsLined contents bytes side p files a)
-      (a ≡ says (status_of refusals.Outside) (refusal_line refusals.Outside) files))
-      (sym (of_member contents.rules.groups p inside)) lined
-
-  pub lined_outside : (Member contents.rules.groups p → ⊥)
-      → a ≡ says (status_of refusals.Outside) (refusal_line refusals.Outside) files
-      → IsLinedIn contents bytes side p files a
-  lined_outside none e =
-      subst (λ b. MatchBool b (IsLined contents bytes side p files a)
-      (a ≡ says (status_of refusals.Outside) (refusal_line refusals.Outside) files))
-      (sym (not_member contents.rules.groups p none)) e
 
 -- the line of which this text was written, with what was spent on it
 pub record LineSo (contents : Contents) (bytes : ℕ → List ℕ) (side : Colour) (p : Board)
@@ -105,10 +78,3 @@ line_so there contents bytes side p text result before now inside tells =
       costs = λ numbers comes. subst (λ (z : List ℕ). SpendsAt arena 1 z before now)
           (sym comes.are) (tells inside comes.plies comes.end comes.line).3;
     }
-
--- the answer of the line
-abbrev pub answer_of : {contents : Contents} {bytes : ℕ → List ℕ} {side : Colour} {p : Board}
-    {text : List ℕ} {result : Result LineEnd LineFault} {before now : Spent}
-    → LineSo contents bytes side p text result before now → Files → Answer
-answer_of {contents} {bytes} {side} {p} so files =
-    line_answer side (code_at contents bytes side p) so.plies (told side so.end) files

@@ -1,10 +1,10 @@
 -- What a store may have held when it was asked again.
-use Rattle.std.proofs.Common.{◌≡◌, refl, sym, subst, ap, ◌∙◌, ℕ, zero, suc, ◌<◌, ◌^◌, List, [], length, Option, Some, None, Ok, arith}
+use Rattle.std.proofs.Common.{◌≡◌, refl, sym, subst, ap, ◌∙◌, ℕ, zero, suc, List, [], length, Option, Some, None, Ok, arith}
 use Rattle.std.specs.Prelude.{IsSomeAnd}
 use Rattle.std.specs.Option.{option_map, unwrap_or}
 use Rattle.frz_board.specs.declared.man.Colour.{Colour}
 use Rattle.frz_board.specs.declared.man.Colour.TheVariants.{White, Black}
-use Rattle.frz_store.specs.Files.{Files, bytes_at, no_files, put}
+use Rattle.frz_store.specs.Files.{Files, no_files, put}
 use Rattle.frz_store.proofs.Lemmas.{put_bytes, put-same}
 use Rattle.frz_rules.proofs.Lemmas.{text_sound}
 use Rattle.frz_table.specs.declared.kind.FileKind.TheVariants.{Plain}

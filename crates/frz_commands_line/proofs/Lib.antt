@@ -3,16 +3,14 @@ mod Counting
 mod Later
 mod Lawful
 mod LineMeans
-mod LineOpened
 mod Meaning
 mod OpeningCosts
 mod OutsideSet
+mod WayAnswered
 mod TableOpened
 mod LineEndsWell
 mod KnownLine
-mod SessionLawful
 mod SessionMeans
-mod SessionOpened
 mod SessionPlayed
 mod SessionSeen
 mod SessionTexts

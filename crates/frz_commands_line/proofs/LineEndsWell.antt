@@ -23,6 +23,7 @@ use Rattle.frz_prelude.specs.declared.refused.Refused.TheVariants as refusals
 use Rattle.frz_ways.specs.declared.end.LineEnd.{LineEnd}
 use Rattle.frz_ways.specs.declared.end.LineFault.{LineFault}
 use Rattle.frz_ways.specs.declared.end.LineFault.TheVariants as faults
+use Rattle.frz_ways.specs.declared.opponent.Opponent.TheVariants.{Codes}
 use Rattle.frz_ways.specs.BestLine.{TellsLine}
 use Rattle.frz_ways.specs.Ends.{told, IsUnfinished, Finishes}
 use Rattle.frz_ways.specs.Faults.{StoreCause, WroteBy}
@@ -30,12 +31,13 @@ use Rattle.frz_ways.specs.Texts.{line_text}
 use Rattle.frz_commands_line.specs.Later.{held_later}
 use Rattle.frz_commands_line.specs.LineEnds.{end_status, naming_line, EndsLine}
 use Rattle.frz_commands_line.specs.LineOf.{code_at, codes_later, LineComes, told_text, line_answer}
-use Rattle.frz_commands_line.specs.Lining.{lining_in}
-use Rattle.frz_commands_line.proofs.Behind.{rest_of, behind_lines, cut_within}
+use Rattle.frz_commands_line.specs.WayJobs.{way_in}
+use Rattle.frz_commands_line.proofs.Behind.{rest_after, behind_lines, cut_within, ended_as}
 use Rattle.frz_commands_line.proofs.Counting.{unfinished_said}
 use Rattle.frz_commands_line.proofs.OpeningCosts.{costs_inside, costs_nothing}
 use Rattle.frz_commands_line.proofs.OutsideSet.{outside_ran}
-use Rattle.frz_commands_line.proofs.KnownLine.{LineThere, LineSo, by_member, lined_inside, lined_outside, line_so}
+use Rattle.frz_commands_line.proofs.KnownLine.{LineThere, LineSo, by_member, line_so}
+use Rattle.frz_commands_line.proofs.WayAnswered.{answered_inside, answered_outside}
 
 -- what was written of the line, by the codes that were read
 abbrev pub Wrote : Table → (later : ℕ → Files) → Colour → Board → Result LineEnd LineFault
@@ -50,7 +52,7 @@ module _ (there : LineThere) (later_files : ℕ → Files) (table : Table) (side
     (input : SourceTold) (out mid taken : SinkTold) (before now : ℕ)
     (quiet : StoreQuiet store left) (later : before ≤ now) where
   abbrev job : Job
-  job = lining_in later_files table side p
+  job = way_in Codes later_files table side p
 
   abbrev old : World
   old = world store input out before
@@ -93,7 +95,7 @@ module _ (there : LineThere) (later_files : ℕ → Files) (table : Table) (side
       (a : Answer)
       → a ≡ line_answer side code_in so.plies (told side so.end) m → job.answers m i a
   is_answer inside text result m i so a e =
-      lined_inside (contents_of table) held side p m a inside
+      answered_inside Codes (contents_of table) held side p m i a inside
       (record { plies = so.plies; end = so.end; line = so.line; told = e })
 
   module _ (inside : Member table.rules.groups p) (text : List ℕ) (lines : IsLines text) where
@@ -109,14 +111,15 @@ module _ (there : LineThere) (later_files : ℕ → Files) (table : Table) (side
     -- the whole line was written, and its end is told
     all_told : (result : Result LineEnd LineFault) (end : End) → TellsIt result
         → TookText text out mid → StoreFine store left
-        → OneOf (end_status result) (rest_of job text).statuses
+        → OneOf (end_status result) (rest_after job text []).statuses
         → Said (end_status result) (naming_line result) end mid taken
         → ((answer : Result LineEnd LineFault) (rest : List ℕ) → Finishes result answer rest
         → (result ≡ answer) × (rest ≡ []))
         → Ran job end old (world left input taken now)
     all_told result end tells took fine own said_it whole =
         behind_lines job text end old mid (world left input taken now) took lines refl refl
-        (said (rest_of job text) (end_status result) (naming_line result) end between played taken
+        (said (rest_after job text []) (end_status result) (naming_line result) end between played
+        taken
         (quiet_with mid) (fine_store store left input mid before now fine) own said_it
         (λ m i agrees.
         let so = so_in result tells in
@@ -134,7 +137,7 @@ module _ (there : LineThere) (later_files : ℕ → Files) (table : Table) (side
         ∙ ap (λ (r : Result LineEnd LineFault). says (end_status r)
         (told_text side code_in so.plies (told side so.end)) m) ended.0 in
         record {
-          found = as_given (rest_of job text) m i between agrees;
+          found = as_given (rest_after job text []) m i between agrees;
           answer = is_answer inside text result m i so
               (says (end_status result) (text ++ naming_line result) m) same;
           costs = line_costs inside text result m i so
@@ -151,13 +154,13 @@ module _ (there : LineThere) (later_files : ℕ → Files) (table : Table) (side
 
     -- the store stopped the line
     stopped_short : (result : Result LineEnd LineFault) (fault : Fault) → TellsIt result
-        → TookText text out mid → MayMeet (rest_of job text) fault between played
+        → TookText text out mid → MayMeet (rest_after job text []) fault between played
         → ((answer : Result LineEnd LineFault) (rest : List ℕ) → Finishes result answer rest
         → IsUnfinished answer rest)
         → Ran job (Stopped fault) old played
     stopped_short result fault tells took meets short =
         behind_lines job text (Stopped fault) old mid played took lines refl refl
-        (stopped (rest_of job text) fault between played (quiet_with mid) meets
+        (stopped (rest_after job text []) fault between played (quiet_with mid) meets
         (λ m i agrees.
         let so = so_in result tells in
         let answer = told side so.end in
@@ -168,7 +171,7 @@ module _ (there : LineThere) (later_files : ℕ → Files) (table : Table) (side
         answer m =
         ap (λ (l : List ℕ). says (end_status answer) l m) whole in
         record {
-          found = as_given (rest_of job text) m i between agrees;
+          found = as_given (rest_after job text []) m i between agrees;
           some = record {
             a = a;
             answer = is_answer inside text result m i so (says (end_status answer) (text ++ rest) m)
@@ -205,17 +208,10 @@ module _ (there : LineThere) (later_files : ℕ → Files) (table : Table) (side
       → Ran job end old (world left input taken now)
   told_outside result end none is same ends =
       outside_ran job old played end taken same refl
-      (λ m i. lined_outside (contents_of table) held side p m
+      (λ m i. answered_outside Codes (contents_of table) held side p m i
       (says (status_of refusals.Outside) (refusal_line refusals.Outside) m) none refl)
       (λ m i a. costs_nothing (contents_of table) p Comes (spent old) none)
       (subst (λ (r : Result LineEnd LineFault). EndsLine r end mid taken) is ends)
-
-  -- a fault ended the command, and nothing more was written
-  ended_as : (end wanted : End) → (end ≡ wanted) × (taken ≡ mid) → Ran job wanted old played
-      → Ran job end old (world left input taken now)
-  ended_as end wanted ends ran =
-      subst (λ (o : SinkTold). Ran job end old (world left input o now)) (sym ends.1)
-      (subst (λ (e : End). Ran job e old played) (sym ends.0) ran)
 
   -- the position is in the set: the line was played, and its end told
   told_inside : Member table.rules.groups p → (result : Result LineEnd LineFault) (end : End)
@@ -235,15 +231,16 @@ module _ (there : LineThere) (later_files : ℕ → Files) (table : Table) (side
       all_told inside wrote.0 wrote.1 (Err (faults.Wrong w)) end wrote.3 wrote.2 cause refl ends
       (λ answer rest h. h)
   told_inside inside (Err faults.Store) end outside cause ends wrote =
-      ended_as end (Stopped Store) ends
+      ended_as job old played taken end (Stopped Store) ends
       (stopped_short inside wrote.0 wrote.1 (Err faults.Store) Store wrote.3 wrote.2 (refl, cause)
       (λ answer rest h. h))
   told_inside inside (Err faults.NoMemory) end outside cause ends wrote =
-      ended_as end (Stopped NoMemory) ends
+      ended_as job old played taken end (Stopped NoMemory) ends
       (stopped_short inside wrote.0 wrote.1 (Err faults.NoMemory) NoMemory wrote.3 wrote.2 refl
       (λ answer rest h. h))
   told_inside inside (Err faults.Output) end outside cause ends wrote =
-      ended_as end SinkFault ends (cut_short inside wrote.0 wrote.1 wrote.3 wrote.2)
+      ended_as job old played taken end SinkFault ends
+      (cut_short inside wrote.0 wrote.1 wrote.3 wrote.2)
 
   pub line_ran : (result : Result LineEnd LineFault) (end : End)
       → ((result ≡ Err faults.Outside) ↔ (Member table.rules.groups p → ⊥))

@@ -1,5 +1,5 @@
 -- What the answers of `line` mean.
-use Rattle.std.proofs.Common.{◌≡◌, inl, inr, ℕ, ◌+◌, ◌*◌, ◌≤◌, List, [], length, Result, Ok, Err, refl, sym, ap, subst, ◌∙◌}
+use Rattle.std.proofs.Common.{◌≡◌, inl, inr, ℕ, ◌+◌, ◌*◌, ◌≤◌, List, [], length, Ok, refl, sym, ap, subst, ◌∙◌}
 use Rattle.std.specs.Prelude.{slice_index, MatchOption}
 use Rattle.frz_board.specs.declared.man.Colour.{Colour}
 use Rattle.frz_board.specs.Boards.{Board}
@@ -14,10 +14,8 @@ use Rattle.frz_arena.specs.WayEnds.{Wrong, NoBound, Mated, Stalemated, Exit, Cut
 use Rattle.frz_game.specs.Bounds.{IsTableOf}
 use Rattle.frz_game.specs.Games.{graph_by}
 use Rattle.frz_game.specs.Numbers.{position_at}
-use Rattle.frz_store.specs.Files.{Files, bytes_at}
-use Rattle.frz_table.specs.declared.fault.TableFault.{TableFault}
-use Rattle.frz_table.specs.declared.kind.FileKind.TheVariants.{Plain}
-use Rattle.frz_table.specs.Opening.{Contents, opened, table_format}
+use Rattle.frz_store.specs.Files.{Files}
+use Rattle.frz_table.specs.Opening.{Contents}
 use Rattle.frz_check.proofs.Lemmas.{bound_kept}
 use Rattle.frz_answer.specs.declared.status.Status.{Status}
 use Rattle.frz_answer.specs.declared.status.Status.TheVariants as statuses
@@ -26,14 +24,16 @@ use Rattle.frz_prelude.specs.TableFiles.{OpensAs}
 use Rattle.frz_ways.specs.declared.end.LineEnd.{LineEnd}
 use Rattle.frz_ways.specs.declared.end.LineEnd.TheVariants as ends
 use Rattle.frz_ways.specs.declared.end.TheConstants.{LINE_LIMIT}
+use Rattle.frz_ways.specs.declared.opponent.Opponent.TheVariants.{Codes}
 use Rattle.frz_ways.specs.ChessGames.{IsGame}
 use Rattle.frz_ways.specs.Ends.{told}
 use Rattle.frz_ways.specs.Lines.{LinePly, EndOfLine, IsLine}
 use Rattle.frz_commands_line.specs.LineEnds.{end_status}
 use Rattle.frz_commands_line.specs.Later.{held_later}
-use Rattle.frz_commands_line.specs.LineOf.{codes_later, told_text, IsLined, IsLinedBy, IsLinedAt}
+use Rattle.frz_commands_line.specs.LineOf.{codes_later, told_text, IsLined}
 use Rattle.frz_commands_line.specs.LineMeaning.{KeepsWin, KeepsHold, HasLine, start_code, MeansStatus, MeansLine}
-use Rattle.frz_commands_line.proofs.Meaning.{ByOpening, means_by}
+use Rattle.frz_commands_line.specs.WayOf.{IsToldAt}
+use Rattle.frz_commands_line.proofs.Meaning.{means_by}
 
 -- what the laws say of all lines
 pub record LineLaws : Type 0 where
@@ -203,17 +203,8 @@ module _ (laws : LineLaws) (later : ℕ → Files) (name : List ℕ) (side : Col
       (told_text side (start_code has) lined.plies (told side lined.end)) lined.told
       (says_end has lined.end refl)
 
-  lined_so : (a : Answer) (x : Result Contents TableFault) (bytes : List ℕ)
-      → IsLinedBy x held side p files a
-      → ByOpening p files a (λ contents bytes. IsLined contents held side p files a) x bytes
-  lined_so a (Ok contents) bytes h = h
-  lined_so a (Err fault) bytes h = h
-
-  pub line_means : (a : Answer) → IsLinedAt later name side p files a
-      → MeansLine later name side p files a
-  line_means a h =
-      means_by name p files a (λ contents bytes. IsLined contents held side p files a)
-      (MeansStatus later name side p files) (means_so a)
-      (λ text e. e) (λ text e. e) (λ text e. inl e)
-      (lined_means a) (files name) refl
-      (lined_so a (opened (table_format Plain) (files name)) (bytes_at files name) h)
+  pub line_means : (input : List ℕ) (a : Answer)
+      → IsToldAt Codes later name side p files input a → MeansLine later name side p files a
+  line_means input a h =
+      means_by Codes later name side p files input a (MeansStatus later name side p files)
+      (means_so a) (λ text e. e) (λ text e. e) (λ text e. inl e) (lined_means a) h

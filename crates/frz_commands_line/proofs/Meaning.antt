@@ -1,7 +1,6 @@
 -- What an answer means that goes by how a table file opens.
-use Rattle.std.proofs.Common.{◌≡◌, ℕ, List, [], Bool, true, false, Option, Some, None, Result, Ok, Err, refl, sym, subst, ◌∙◌}
-use Rattle.std.specs.Prelude.{MatchBool}
-use Rattle.std.specs.Option.{unwrap_or}
+use Rattle.std.proofs.Common.{◌≡◌, ℕ, List, Bool, true, false, Option, Some, None, Result, Ok, Err, refl, sym, subst, ◌∙◌}
+use Rattle.frz_board.specs.declared.man.Colour.{Colour}
 use Rattle.frz_board.specs.Boards.{Board}
 use Rattle.frz_index.specs.Members.{Member}
 use Rattle.frz_index.proofs.Lemmas.{member_of, of_member}
@@ -20,23 +19,15 @@ use Rattle.frz_prelude.specs.TableCauses.{table_line}
 use Rattle.frz_prelude.specs.TableFiles.{OpensAs, TellsTableFault}
 use Rattle.frz_prelude.specs.declared.refused.Refused.TheVariants as refusals
 use Rattle.frz_prelude.proofs.Lemmas.{refused_means}
+use Rattle.frz_ways.specs.declared.opponent.Opponent.{Opponent}
+use Rattle.frz_commands_line.specs.Later.{held_later}
 use Rattle.frz_commands_line.specs.LineMeaning.{TellsOutside}
-
--- what a command answers by how the file opens, and at a position of its set
-module _ (p : Board) (files : Files) (a : Answer) (Inside : Contents → (bytes : List ℕ) → Type 0)
-  where
-    abbrev ByMember : Contents → List ℕ → Bool → Type 0
-    ByMember contents bytes b = MatchBool b (Inside contents bytes)
-        (a ≡ says (status_of refusals.Outside) (refusal_line refusals.Outside) files)
-
-    abbrev pub ByOpening : Result Contents TableFault → List ℕ → Type 0
-    ByOpening (Ok contents) bytes = ByMember contents bytes (is_member contents.rules.groups p)
-    ByOpening (Err fault) bytes =
-        a ≡ says (status_of (refusals.Table fault)) (refusal_line (refusals.Table fault)) files
+use Rattle.frz_commands_line.specs.WayOf.{IsTold, IsToldBy, IsToldAt}
+use Rattle.frz_commands_line.proofs.WayAnswered.{ByMember}
 
 -- what an answer means by its status
-module _ (name : List ℕ) (p : Board) (files : Files) (a : Answer)
-    (Inside : Contents → (bytes : List ℕ) → Type 0) (Says : Status → List ℕ → Type 0)
+module _ (opponent : Opponent) (later : ℕ → Files) (name : List ℕ) (side : Colour) (p : Board)
+    (files : Files) (input : List ℕ) (a : Answer) (Says : Status → List ℕ → Type 0)
     {Meaning : Type 0}
     (so : (status : Status) (text : List ℕ) → a ≡ says status text files → Says status text
     → Meaning)
@@ -44,10 +35,11 @@ module _ (name : List ℕ) (p : Board) (files : Files) (a : Answer)
     (refused : (text : List ℕ) → TellsTableFault name files text → Says statuses.Table text)
     (outside : (text : List ℕ) → TellsOutside name p files text → Says statuses.Outside text)
     (inside : (bytes : List ℕ) (contents : Contents) → OpensAs name files bytes contents
-    → Member contents.rules.groups p → Inside contents bytes → Meaning) where
+    → Member contents.rules.groups p
+    → IsTold opponent contents (held_later later name) side p files input a → Meaning) where
   by_member : (bytes : List ℕ) (contents : Contents) → OpensAs name files bytes contents
       → (b : Bool) → is_member contents.rules.groups p ≡ b
-      → ByMember p files a Inside contents bytes b → Meaning
+      → ByMember opponent contents (held_later later name) side p files input a b → Meaning
   by_member bytes contents open_file true e h =
       inside bytes contents open_file (member_of contents.rules.groups p e) h
   by_member bytes contents open_file false e h =
@@ -62,7 +54,8 @@ module _ (name : List ℕ) (p : Board) (files : Files) (a : Answer)
       }))
 
   by_bytes : (bytes : List ℕ) → files name ≡ Some bytes → (x : Result Contents TableFault)
-      → opened (table_format Plain) (Some bytes) ≡ x → ByOpening p files a Inside x bytes → Meaning
+      → opened (table_format Plain) (Some bytes) ≡ x
+      → IsToldBy opponent x (held_later later name) side p files input a → Meaning
   by_bytes bytes there (Ok contents) opens h =
       by_member bytes contents (record { there = there; opens = opens })
       (is_member contents.rules.groups p) refl h
@@ -70,10 +63,15 @@ module _ (name : List ℕ) (p : Board) (files : Files) (a : Answer)
       so (status_of (refusals.Table fault)) (refusal_line (refusals.Table fault)) h
       (refused_means Plain name files Says refused bytes there fault e)
 
-  pub means_by : (held : Option (List ℕ)) → files name ≡ held
-      → ByOpening p files a Inside (opened (table_format Plain) held) (unwrap_or held []) → Meaning
-  means_by None e h =
+  by_held : (held : Option (List ℕ)) → files name ≡ held
+      → IsToldBy opponent (opened (table_format Plain) held) (held_later later name) side p files
+      input a → Meaning
+  by_held None e h =
       so statuses.Missing (table_line table.Missing)
-      (subst (λ (x : Result Contents TableFault). ByOpening p files a Inside x [])
+      (subst (λ (x : Result Contents TableFault).
+      IsToldBy opponent x (held_later later name) side p files input a)
       (opened_missing (table_format Plain)) h) (missing (table_line table.Missing) e)
-  means_by (Some bytes) e h = by_bytes bytes e (opened (table_format Plain) (Some bytes)) refl h
+  by_held (Some bytes) e h = by_bytes bytes e (opened (table_format Plain) (Some bytes)) refl h
+
+  pub means_by : IsToldAt opponent later name side p files input a → Meaning
+  means_by h = by_held (files name) refl h

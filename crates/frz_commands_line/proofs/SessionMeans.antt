@@ -20,10 +20,8 @@ use Rattle.frz_game.specs.Bounds.{IsTableOf}
 use Rattle.frz_game.specs.Games.{chess, graph_by}
 use Rattle.frz_game.specs.Numbers.{position_at}
 use Rattle.frz_game.specs.Values.{AreTrueExits}
-use Rattle.frz_store.specs.Files.{Files, bytes_at}
-use Rattle.frz_table.specs.declared.fault.TableFault.{TableFault}
-use Rattle.frz_table.specs.declared.kind.FileKind.TheVariants.{Plain}
-use Rattle.frz_table.specs.Opening.{Contents, opened, table_format}
+use Rattle.frz_store.specs.Files.{Files}
+use Rattle.frz_table.specs.Opening.{Contents}
 use Rattle.frz_commands_line.specs.Later.{held_later}
 use Rattle.frz_commands_line.specs.LineOf.{codes_later}
 use Rattle.frz_answer.specs.declared.status.Status.{Status}
@@ -31,6 +29,7 @@ use Rattle.frz_answer.specs.Answers.{Answer, says}
 use Rattle.frz_prelude.specs.TableFiles.{OpensAs}
 use Rattle.frz_ways.specs.ChessGames.{IsGame}
 use Rattle.frz_ways.specs.declared.end.LineFault.TheVariants as faults
+use Rattle.frz_ways.specs.declared.opponent.Opponent.TheVariants as opponents
 use Rattle.frz_ways.specs.declared.session_end.PlayFault.{PlayFault}
 use Rattle.frz_ways.specs.declared.session_end.PlayFault.TheVariants as plays
 use Rattle.frz_ways.specs.declared.session_end.SessionEnd.{SessionEnd}
@@ -41,11 +40,12 @@ use Rattle.frz_ways.specs.SessionEnds.{why_told, Tells}
 use Rattle.frz_ways.specs.Reading.{Input, Halt}
 use Rattle.frz_ways.specs.Sessions.{SessionPly, EndOfSession, IsSession}
 use Rattle.frz_commands_line.specs.SessionEnds.{session_status}
-use Rattle.frz_commands_line.specs.SessionOf.{played_text, IsPlayed, IsPlayedBy, IsPlayedAt}
+use Rattle.frz_commands_line.specs.SessionOf.{played_text, IsPlayed}
 use Rattle.frz_commands_line.specs.SessionMeaning.{PlaysWin, PlaysHold, IsSafe, HasSession, start_code, IsExactFile, MeansStatus, MeansPlay}
+use Rattle.frz_commands_line.specs.WayOf.{IsToldAt}
 use Rattle.frz_check.proofs.Lemmas.{bound_kept}
 use Rattle.frz_commands_line.proofs.LineMeans.{game_inside}
-use Rattle.frz_commands_line.proofs.Meaning.{ByOpening, means_by}
+use Rattle.frz_commands_line.proofs.Meaning.{means_by}
 
 -- what the laws say of all sessions
 pub record SessionLaws : Type 0 where
@@ -255,17 +255,10 @@ module _ (laws : SessionLaws) (later : ℕ → Files) (name : List ℕ) (side : 
       (length input - length played.left.left) (omega arith) played.told
       (says_end has played.end refl played.answer played.tells)
 
-  played_so : (a : Answer) (x : Result Contents TableFault) (bytes : List ℕ)
-      → IsPlayedBy x held side p files input a
-      → ByOpening p files a (λ contents bytes. IsPlayed contents held side p files input a) x bytes
-  played_so a (Ok contents) bytes h = h
-  played_so a (Err fault) bytes h = h
-
-  pub play_means : (a : Answer) → IsPlayedAt later name side p files input a
+  pub play_means : (a : Answer) → IsToldAt opponents.Input later name side p files input a
       → MeansPlay later name side p files input a
   play_means a h =
-      means_by name p files a (λ contents bytes. IsPlayed contents held side p files input a)
+      means_by opponents.Input later name side p files input a
       (MeansStatus later name side p files input)
       (λ status text e means. means_so a status text 0 (omega arith) e means) (λ text e. e)
-      (λ text e. e) (λ text e. inl e) (played_means a) (files name) refl
-      (played_so a (opened (table_format Plain) (files name)) (bytes_at files name) h)
+      (λ text e. e) (λ text e. inl e) (played_means a) h

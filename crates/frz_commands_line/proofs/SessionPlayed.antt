@@ -1,5 +1,5 @@
 -- How `play` ends by an open table.
-use Rattle.std.proofs.Common.{◌≡◌, ◌↔◌, refl, sym, ap, subst, ◌∙◌, ℕ, ◌+◌, ◌-◌, ◌≤◌, List, [], ◌++◌, length, Result, Ok, Err, IfSome, arith, append_assoc, append-nil, length-append}
+use Rattle.std.proofs.Common.{◌≡◌, ◌↔◌, refl, sym, ap, subst, ◌∙◌, ℕ, ◌+◌, ◌-◌, ◌≤◌, List, [], ◌++◌, length, Result, Ok, Err, IfSome, true, arith, append_assoc, append-nil, length-append}
 use Rattle.frz_board.specs.declared.man.Colour.{Colour}
 use Rattle.frz_board.specs.Boards.{Board}
 use Rattle.frz_index.specs.Members.{Member}
@@ -14,7 +14,7 @@ use Rattle.frz_answer.specs.declared.end.End.{End}
 use Rattle.frz_answer.specs.declared.end.End.TheVariants.{Stopped, SinkFault}
 use Rattle.frz_answer.specs.Statuses.{OneOf}
 use Rattle.frz_answer.specs.Texts.{TookText, FailedWithin}
-use Rattle.frz_answer.specs.World.{World, world, Spent, spent, spent_by}
+use Rattle.frz_answer.specs.World.{World, world, Agrees, Spent, spent, spent_by}
 use Rattle.frz_answer.specs.Answers.{Answer, says, behind, IsLines}
 use Rattle.frz_answer.specs.Jobs.{Job}
 use Rattle.frz_answer.specs.Ends.{MayMeet, Ran, Said}
@@ -22,6 +22,7 @@ use Rattle.frz_answer.proofs.Lemmas.{said, stopped}
 use Rattle.frz_prelude.specs.Refusals.{status_of, refusal_line}
 use Rattle.frz_prelude.specs.declared.refused.Refused.TheVariants as refusals
 use Rattle.frz_ways.specs.declared.end.LineFault.TheVariants as faults
+use Rattle.frz_ways.specs.declared.opponent.Opponent.TheVariants as opponents
 use Rattle.frz_ways.specs.declared.session_end.PlayFault.{PlayFault}
 use Rattle.frz_ways.specs.declared.session_end.PlayFault.TheVariants as plays
 use Rattle.frz_ways.specs.declared.session_end.SessionEnd.{SessionEnd}
@@ -33,18 +34,19 @@ use Rattle.frz_commands_line.specs.SessionEnds.{session_status, session_naming, 
 use Rattle.frz_commands_line.specs.Later.{held_later}
 use Rattle.frz_commands_line.specs.LineOf.{code_at, codes_later}
 use Rattle.frz_commands_line.specs.SessionOf.{SessionComes, played_text, session_answer, IsSessionBy}
-use Rattle.frz_commands_line.specs.Playing.{playing_in}
+use Rattle.frz_commands_line.specs.WayJobs.{way_in}
 use Rattle.frz_game.specs.Games.{graph_by}
 use Rattle.frz_exits.specs.Books.{value_by}
 use Rattle.frz_index.specs.Members.{Num}
 use Rattle.frz_ways.specs.Reading.{opened}
-use Rattle.frz_commands_line.proofs.Behind.{cut_within}
+use Rattle.frz_commands_line.proofs.Behind.{Splits, after_lines, cut_within, ended_as, rest_after}
 use Rattle.frz_commands_line.proofs.OpeningCosts.{costs_inside, costs_nothing}
 use Rattle.frz_commands_line.proofs.OutsideSet.{outside_ran}
 use Rattle.frz_commands_line.proofs.KnownLine.{by_member}
-use Rattle.frz_commands_line.proofs.SessionSeen.{SessionThere, SessionSo, played_inside, played_outside, session_so}
+use Rattle.frz_commands_line.proofs.SessionSeen.{SessionThere, SessionSo, session_so}
+use Rattle.frz_commands_line.proofs.WayAnswered.{answered_inside, answered_outside}
 use Rattle.frz_commands_line.proofs.SessionTexts.{Answered, answered_at, never_cut}
-use Rattle.frz_commands_line.proofs.InputTaken.{rest_after, Split, found_in, after_lines, lines_came, quiet_then, rest_left, unfailed_source}
+use Rattle.frz_commands_line.proofs.InputTaken.{found_in, lines_came, never_both, quiet_then, rest_left, unfailed_source}
 
 -- what was written of the session and taken of the input
 abbrev pub Played : Table → (later : ℕ → Files) → Colour → Board → Result SessionEnd PlayFault
@@ -71,7 +73,7 @@ module _ (there : SessionThere) (later_files : ℕ → Files) (table : Table) (s
     (source gone : SourceTold) (out mid taken : SinkTold) (before now : ℕ)
     (quiet : StoreQuiet store left) (later : before ≤ now) where
   abbrev job : Job
-  job = playing_in later_files table side p
+  job = way_in opponents.Input later_files table side p
 
   abbrev held : ℕ → List ℕ
   held = held_later later_files table.name
@@ -109,11 +111,15 @@ module _ (there : SessionThere) (later_files : ℕ → Files) (table : Table) (s
     abbrev rest_of : (result : Result SessionEnd PlayFault) (m : Files) → Session result → List ℕ
     rest_of result m so = so.of.unread ++ so.left.left
 
-    split_in : (result : Result SessionEnd PlayFault) → TellsIt result → (m : Files)
-        → Split took source.left
-    split_in result tells m =
+    split_in : (result : Result SessionEnd PlayFault) → TellsIt result → (m : Files) (i : List ℕ)
+        → Agrees old m i → Splits job took m i old
+    split_in result tells m i agrees =
         let so = so_in result tells in
-        record { input = so.input; rest = rest_of result m so; may = so.may; split = so.of.takes }
+        record {
+          found = found_in job m i old so.input refl agrees.store so.may;
+          rest = rest_of result m so;
+          split = so.of.takes;
+        }
 
     -- what was spent is within the costs of the session
     session_costs : (result : Result SessionEnd PlayFault) (m : Files) (so : Session result)
@@ -134,7 +140,7 @@ module _ (there : SessionThere) (later_files : ℕ → Files) (table : Table) (s
         → a ≡ session_answer side code_in so.input so.plies so.end so.left answer m
         → job.answers m so.input a
     is_answer result m so answer tells a e =
-        played_inside (contents_of table) held side p m so.input a inside
+        answered_inside opponents.Input (contents_of table) held side p m so.input a inside
         (record {
           plies = so.plies;
           end = so.end;
@@ -193,8 +199,8 @@ module _ (there : SessionThere) (later_files : ℕ → Files) (table : Table) (s
         → Ran job end old (world left gone taken now)
     all_told result end tells took_text fine unfailed own said_it whole =
         after_lines job text took end old between (world left gone taken now)
-        (lines_came text took store source gone out mid before took_text bytes) lines refl refl refl
-        (λ m agrees. split_in result tells m)
+        (lines_came text took store source gone out mid before took_text bytes) lines refl refl
+        (λ e. never_both true refl e) (λ m i agrees. split_in result tells m i agrees)
         (λ m i a costs. costs)
         (said (rest_after job text took) (session_status result) (session_naming result) end between
         played taken (quiet_then store left source gone mid before now quiet fell later)
@@ -242,8 +248,8 @@ module _ (there : SessionThere) (later_files : ℕ → Files) (table : Table) (s
         → Ran job (Stopped fault) old played
     stopped_short result fault tells took_text meets short =
         after_lines job text took (Stopped fault) old between played
-        (lines_came text took store source gone out mid before took_text bytes) lines refl refl refl
-        (λ m agrees. split_in result tells m)
+        (lines_came text took store source gone out mid before took_text bytes) lines refl refl
+        (λ e. never_both true refl e) (λ m i agrees. split_in result tells m i agrees)
         (λ m i a costs. costs)
         (stopped (rest_after job text took) fault between played
         (quiet_then store left source gone mid before now quiet fell later)
@@ -296,13 +302,6 @@ module _ (there : SessionThere) (later_files : ℕ → Files) (table : Table) (s
           costs = session_costs result m so a;
         })
 
-  -- a fault ended the command, and nothing more was written
-  ended_as : (end wanted : End) → (end ≡ wanted) × (taken ≡ mid) → Ran job wanted old played
-      → Ran job end old (world left gone taken now)
-  ended_as end wanted ends ran =
-      subst (λ (o : SinkTold). Ran job end old (world left gone o now)) (sym ends.1)
-      (subst (λ (e : End). Ran job e old played) (sym ends.0) ran)
-
   -- the position is not in the set
   told_outside : (result : Result SessionEnd PlayFault) (end : End)
       → (Member table.rules.groups p → ⊥) → result ≡ Err (plays.Line faults.Outside)
@@ -310,7 +309,7 @@ module _ (there : SessionThere) (later_files : ℕ → Files) (table : Table) (s
       → Ran job end old (world left gone taken now)
   told_outside result end none is same ends =
       outside_ran job old played end taken same refl
-      (λ m i. played_outside (contents_of table) held side p m i
+      (λ m i. answered_outside opponents.Input (contents_of table) held side p m i
       (says (status_of refusals.Outside) (refusal_line refusals.Outside) m) none refl)
       (λ m i a. costs_nothing (contents_of table) p
       (SessionComes held side p i (contents_of table)) (spent old) none)
@@ -341,21 +340,21 @@ module _ (there : SessionThere) (later_files : ℕ → Files) (table : Table) (s
   told_inside inside (Err (plays.Line faults.Outside)) end outside cause input ends w =
       absurd (outside.0 refl inside)
   told_inside inside (Err (plays.Line faults.Store)) end outside cause input ends w =
-      ended_as end (Stopped stops.Store) ends
+      ended_as job old played taken end (Stopped stops.Store) ends
       (stopped_short inside w.0 w.1 w.2 w.4
       (input_later (Err (plays.Line faults.Store)) source gone input)
       (Err (plays.Line faults.Store)) stops.Store w.5 w.3 (refl, cause) (λ final rest unread h. h))
   told_inside inside (Err (plays.Line faults.NoMemory)) end outside cause input ends w =
-      ended_as end (Stopped stops.NoMemory) ends
+      ended_as job old played taken end (Stopped stops.NoMemory) ends
       (stopped_short inside w.0 w.1 w.2 w.4
       (input_later (Err (plays.Line faults.NoMemory)) source gone input)
       (Err (plays.Line faults.NoMemory)) stops.NoMemory w.5 w.3 refl (λ final rest unread h. h))
   told_inside inside (Err plays.Input) end outside cause input ends w =
-      ended_as end (Stopped stops.Input) ends
+      ended_as job old played taken end (Stopped stops.Input) ends
       (stopped_short inside w.0 w.1 w.2 w.4 (input_later (Err plays.Input) source gone input)
       (Err plays.Input) stops.Input w.5 w.3 (refl, input.rose) (λ final rest unread h. h))
   told_inside inside (Err (plays.Line faults.Output)) end outside cause input ends w =
-      ended_as end SinkFault ends
+      ended_as job old played taken end SinkFault ends
       (cut_short inside w.0 w.1 w.2 w.4
       (input_later (Err (plays.Line faults.Output)) source gone input) w.5 w.3)
 

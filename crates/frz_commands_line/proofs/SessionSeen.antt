@@ -1,26 +1,17 @@
 -- What is known of a session that was played, by the file that
 -- the store tells and some input that may be told.
-use Rattle.std.proofs.Common.{◌≡◌, sym, subst, ℕ, List, Option, Result, IfSome}
-use Rattle.std.specs.Prelude.{IsSome, MatchBool}
+use Rattle.std.proofs.Common.{sym, subst, ℕ, List, Result}
 use Rattle.frz_board.specs.declared.man.Colour.{Colour}
 use Rattle.frz_board.specs.Boards.{Board}
 use Rattle.frz_sets.specs.declared.exit.Value.{Value}
 use Rattle.frz_sets.specs.Views.{RuleLines}
 use Rattle.frz_exits.specs.Books.{value_by}
 use Rattle.frz_index.specs.Members.{Member, Num}
-use Rattle.frz_index.proofs.Lemmas.{of_member}
 use Rattle.frz_game.specs.Games.{graph_by}
-use Rattle.frz_store.specs.Files.{Files, bytes_at}
 use Rattle.frz_store.specs.Told.{SourceTold}
-use Rattle.frz_table.specs.Layout.{codes_at}
-use Rattle.frz_table.specs.Opening.{Contents, contents_of}
-use Rattle.frz_table.specs.Tables.{Table, Carries, table_size}
+use Rattle.frz_table.specs.Opening.{Contents}
 use Rattle.frz_answer.specs.World.{Spent}
-use Rattle.frz_answer.specs.Answers.{Answer, says}
-use Rattle.frz_prelude.specs.Refusals.{status_of, refusal_line}
-use Rattle.frz_prelude.specs.declared.refused.Refused.TheVariants as refusals
 use Rattle.frz_ways.specs.Costs.{SpendsAt}
-use Rattle.frz_ways.specs.Kept.{told_codes}
 use Rattle.frz_ways.specs.declared.session_end.PlayFault.{PlayFault}
 use Rattle.frz_ways.specs.declared.session_end.SessionEnd.{SessionEnd}
 use Rattle.frz_ways.specs.SessionFaults.{MayHold}
@@ -28,8 +19,7 @@ use Rattle.frz_ways.specs.PlaySession.{PlayedOf, TellsSession}
 use Rattle.frz_ways.specs.Reading.{Input}
 use Rattle.frz_ways.specs.Sessions.{SessionPly, EndOfSession, IsSession}
 use Rattle.frz_commands_line.specs.LineOf.{code_at, codes_later}
-use Rattle.frz_commands_line.specs.SessionOf.{IsSessionBy, SessionComes, IsPlayed, IsPlayedIn}
-use Rattle.frz_commands_line.proofs.KnownLine.{not_member}
+use Rattle.frz_commands_line.specs.SessionOf.{IsSessionBy, SessionComes}
 
 -- that there is a session from each number against each input
 abbrev pub SessionThere : Type 0
@@ -38,24 +28,6 @@ SessionThere = (rules : RuleLines) (value : Board → Value) (side : Colour)
     (start : ℕ) (input : List ℕ)
     → (plies : List SessionPly) × (end : EndOfSession) × (left : Input)
     × IsSession rules value side codes start input plies end left
-
--- the answer at a position of the set, and at one that is outside
-module _ (contents : Contents) (bytes : ℕ → List ℕ) (side : Colour) (p : Board) (files : Files)
-    (input : List ℕ) (a : Answer) where
-  abbrev Refuses : Type 0
-  Refuses = a ≡ says (status_of refusals.Outside) (refusal_line refusals.Outside) files
-
-  pub played_inside : Member contents.rules.groups p → IsPlayed contents bytes side p files input a
-      → IsPlayedIn contents bytes side p files input a
-  played_inside inside played =
-      subst (λ b. MatchBool b (IsPlayed contents bytes side p files input a) Refuses)
-      (sym (of_member contents.rules.groups p inside)) played
-
-  pub played_outside : (Member contents.rules.groups p → ⊥) → Refuses
-      → IsPlayedIn contents bytes side p files input a
-  played_outside none e =
-      subst (λ b. MatchBool b (IsPlayed contents bytes side p files input a) Refuses)
-      (sym (not_member contents.rules.groups p none)) e
 
 -- the session of which this text was written and these bytes taken, with what was spent on it
 pub record SessionSo (contents : Contents) (bytes : ℕ → List ℕ) (side : Colour) (p : Board)

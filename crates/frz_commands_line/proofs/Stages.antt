@@ -5,7 +5,7 @@ use Rattle.frz_answer.specs.declared.status.Status.{Status}
 use Rattle.frz_answer.specs.Statuses.{subset}
 use Rattle.frz_answer.specs.World.{Spent}
 use Rattle.frz_answer.specs.Answers.{Answer}
-use Rattle.frz_answer.specs.Jobs.{Job, Never}
+use Rattle.frz_answer.specs.Jobs.{Job, Never, Once, Reads}
 use Rattle.frz_answer.proofs.Lemmas.{IsStage}
 
 -- a stage with other answers, meanings and costs, and no statuses but those of the job
@@ -47,3 +47,7 @@ is_later_part job statuses all = record {
   speaks = λ h. h;
   writes = refl;
 }
+
+-- what is read is looked at
+pub once_is_not : {A : Type 0} → ◌≡◌ {A = Reads} Once Never → A
+once_is_not e = cc

@@ -1,6 +1,7 @@
--- How a job that opens a table file first ends where it was opened, and where it was not.
-use Rattle.std.proofs.Common.{◌≡◌, refl, sym, subst, ap, ◌∙◌, Option, Some, ℕ, ◌+◌, ◌≤◌, List, length, true, IsTrue, Result, Ok, Err, None}
-use Rattle.std.specs.Prelude.{IfSome, ⊤}
+-- How `line` and `play` end where the table file was opened, and where it was not.
+use Rattle.std.proofs.Common.{◌≡◌, refl, sym, subst, ap, ◌∙◌, Option, Some, ℕ, ◌+◌, ◌≤◌, List, length, true, Result, Ok, Err, None}
+use Rattle.std.specs.Prelude.{IfSome}
+use Rattle.frz_board.specs.declared.man.Colour.{Colour}
 use Rattle.frz_board.specs.Boards.{Board}
 use Rattle.frz_store.specs.Files.{Files}
 use Rattle.frz_store.specs.Told.{StoreTold, SourceTold, SinkTold, StoreQuiet, StoreFine}
@@ -13,23 +14,26 @@ use Rattle.frz_table.specs.Possible.{MayOpen, MayRefuse, held_text}
 use Rattle.frz_table.specs.Tables.{Table}
 use Rattle.frz_table.proofs.Lemmas.{belongs, opened_missing, text_kept}
 use Rattle.frz_answer.specs.declared.end.End.{End}
-use Rattle.frz_answer.specs.declared.status.Status.{Status}
-use Rattle.frz_answer.specs.declared.status.Status.TheVariants as statuses
-use Rattle.frz_answer.specs.Statuses.{OneOf, subset}
+use Rattle.frz_answer.specs.Statuses.{subset}
 use Rattle.frz_answer.specs.World.{World, world, spent, spent_by}
-use Rattle.frz_answer.specs.Answers.{Answer, says, SomeAnswer}
-use Rattle.frz_answer.specs.Jobs.{Job, Reads, Never, Once}
+use Rattle.frz_answer.specs.Answers.{Answer, says}
+use Rattle.frz_answer.specs.Jobs.{Job}
 use Rattle.frz_answer.specs.Ends.{Ran}
 use Rattle.frz_answer.proofs.Lemmas.{Found, fine_store, quiet_store, through}
 use Rattle.frz_prelude.specs.Refusals.{status_of, refusal_line}
 use Rattle.frz_prelude.specs.Stops.{EndsBy, stop_of_table}
 use Rattle.frz_prelude.specs.declared.refused.Refused.TheVariants as refusals
 use Rattle.frz_prelude.proofs.Lemmas.{Holding, ended, holding, may_stop, stop_own, stops_by, table_cause}
-use Rattle.frz_commands_line.specs.Costs.{CostsIn, CostsAt}
-use Rattle.frz_commands_line.specs.Later.{MayBeLater, OpensAtStart, from_opening}
+use Rattle.frz_ways.specs.declared.opponent.Opponent.{Opponent}
+use Rattle.frz_ways.specs.declared.opponent.Opponent.TheVariants.{Codes, Input}
+use Rattle.frz_commands_line.specs.Costs.{CostsIn}
+use Rattle.frz_commands_line.specs.Later.{MayBeLater, OpensAtStart, from_opening, held_later}
+use Rattle.frz_commands_line.specs.WayJobs.{way_at, way_in}
+use Rattle.frz_commands_line.specs.WayOf.{IsToldBy, WayComes}
 use Rattle.frz_commands_line.proofs.Later.{as_opened}
 use Rattle.frz_commands_line.proofs.OpeningCosts.{opening_within, playing_within}
-use Rattle.frz_commands_line.proofs.Stages.{is_later_part}
+use Rattle.frz_commands_line.proofs.Stages.{is_later_part, once_is_not}
+use Rattle.frz_commands_line.proofs.WayAnswered.{SomeTold, some_at}
 
 -- the text of a file that opens is the one that it keeps
 opened_text : (held : Option (List ℕ)) (contents : Contents)
@@ -45,35 +49,32 @@ pub opens_still : {told now : Option Files} {name : List ℕ} (table : Table) �
     → MayOpen (table_format Plain) now table.name (contents_of table)
 opens_still table unwritten named may = rw (unwritten, named) may
 
-once_is_not : {A : Type 0} (reads : Reads) → reads ≡ Once → reads ≡ Never → A
-once_is_not reads once never = let no : Once ≡ Never = sym once ∙ never in cc
+-- the way by the table of this name
+module _ (opponent : Opponent) (later : ℕ → Files) (name : List ℕ) (side : Colour) (p : Board) where
+  abbrev by_file : Job
+  by_file = way_at opponent later name side p
 
--- what is answered by how the file opens, and which numbers the way from the position comes to
-module _ (By : (later : ℕ → Files) (name : List ℕ) → Result Contents TableFault → Files → List ℕ
-    → Answer → Type 0) (comes : (later : ℕ → Files) (name input : List ℕ) → Contents → List ℕ
-    → Type 0) (later : ℕ → Files) (p : Board) (name : List ℕ) (job : Job) where
-  -- the job by the file of this name
-  abbrev pub by_file : Job
-  by_file = record job {
-    answers = λ files input a. By (from_opening files later) name
-        (opened (table_format Plain) (files name)) files input a;
-    costs = λ files input a. CostsAt (files name) p
-        (comes (from_opening files later) name input);
-  }
+  abbrev by_table : Table → Job
+  by_table table = way_in opponent later table side p
 
-  -- and by the open table
-  abbrev pub by_table : List Status → Table → Job
-  by_table own table = record job {
-    answers = λ files input a. By later table.name (Ok (contents_of table)) files input a;
-    means = λ _ _ _. ⊤;
-    statuses = own;
-    needs = record job.needs { reads = Never };
-    costs = λ files input a.
-        CostsIn (contents_of table) p (comes later table.name input (contents_of table)) 0 0;
-  }
+  all_own : (table : Table) → subset (by_table table).statuses by_file.statuses ≡ true
+  all_own table = by_opponent opponent
+    where
+      by_opponent : (o : Opponent) → subset (way_in o later table side p).statuses
+          (way_at o later name side p).statuses ≡ true
+      by_opponent Codes = refl
+      by_opponent Input = refl
 
-  module _ (once : job.needs.reads ≡ Once) {store now : StoreTold} {input : SourceTold}
-      {out : SinkTold} {steps : ℕ} (quiet : StoreQuiet store now) where
+  -- what is answered by how the file opens, and which numbers the way comes to
+  abbrev By : (ℕ → Files) → List ℕ → Result Contents TableFault → Files → List ℕ → Answer → Type 0
+  By held called x files input a =
+      IsToldBy opponent x (held_later held called) side p files input a
+
+  abbrev Comes : (ℕ → Files) → List ℕ → List ℕ → Contents → List ℕ → Type 0
+  Comes held called input = WayComes opponent (held_later held called) side p input
+
+  module _ {store now : StoreTold} {input : SourceTold} {out : SinkTold} {steps : ℕ}
+      (quiet : StoreQuiet store now) where
     -- files that hold this under the name
     abbrev found_at : (held : Option (List ℕ)) (left : List ℕ) (free : Files)
         → IfSome input.left (λ told. told ≡ left)
@@ -83,28 +84,29 @@ module _ (By : (later : ℕ → Files) (name : List ℕ) → Result Contents Tab
       files = at.files;
       input = left;
       agrees = record { store = at.agrees; source = source };
-      free = λ never. once_is_not job.needs.reads once never;
+      free = λ never. once_is_not never;
       untaken = λ _. refl;
     }
 
     -- the table was opened: what was done by it is what was to be done by its file
-    pub opened_ran : (own : List Status) (table : Table) {end : End} {new : World}
-        → subset own job.statuses ≡ true → StoreFine store now → table.name ≡ name
+    pub opened_ran : (table : Table) {end : End} {new : World}
+        → StoreFine store now → table.name ≡ name
         → MayBeLater store.files later → OpensAtStart later table
         → now.asked ≤ store.asked + (16 + length table.text)
         → now.calls ≤ store.calls + 5
-        → Ran (by_table own table) end (world now input out steps) new
+        → Ran (by_table table) end (world now input out steps) new
         → Ran by_file end (world store input out steps) new
-    opened_ran own table {end} {new} all fine named may start asked few ran =
+    opened_ran table {end} {new} fine named may start asked few ran =
         let old = world store input out steps in
         let at : Holding store.files name (later 0 name) =
         record { files = later 0; agrees = may 0; holds = refl } in
         let opens : opened (table_format Plain) (later 0 name) ≡ Ok (contents_of table) =
         subst (λ (q : List ℕ). opened (table_format Plain) (later 0 q) ≡ Ok (contents_of table))
         named start in
-        through (by_table own table) by_file old (world now input out steps) new
+        through (by_table table) by_file old (world now input out steps) new
         (quiet_store store now input out steps quiet)
-        (fine_store store now input out steps steps fine) (is_later_part by_file own all) end
+        (fine_store store now input out steps steps fine)
+        (is_later_part by_file (by_table table).statuses (all_own table)) end
         (λ files left agrees. record {
           found = found_at (later 0 name) left files agrees.source at;
           answers = λ m i a fits free untaken answer.
@@ -117,44 +119,42 @@ module _ (By : (later : ℕ → Files) (name : List ℕ) → Result Contents Tab
               let holds : m name ≡ later 0 name = ap (λ (f : Files). f name) (free refl) in
               let text : held_text (m name) ≡ table.text = ap held_text holds
               ∙ opened_text (later 0 name) (contents_of table) opens in
-              playing_within (m name) (contents_of table) p (comes (from_opening m later) name i)
+              playing_within (m name) (contents_of table) p (Comes (from_opening m later) name i)
               (spent_by store steps) (spent_by now steps) (spent new)
               (ap (opened (table_format Plain)) holds ∙ opens) refl few
               (subst (λ (t : List ℕ). now.asked ≤ store.asked + (16 + length t)) (sym text) asked)
               (subst (λ (at : ℕ → Files). CostsIn (contents_of table) p
-              (comes at name i (contents_of table)) 0 0 (spent_by now steps) (spent new))
+              (Comes at name i (contents_of table)) 0 0 (spent_by now steps) (spent new))
               (as_opened later m (free refl))
               (subst (λ (q : List ℕ). CostsIn (contents_of table) p
-              (comes later q i (contents_of table)) 0 0 (spent_by now steps) (spent new))
+              (Comes later q i (contents_of table)) 0 0 (spent_by now steps) (spent new))
               named costs));
         })
         ran
 
     -- it was not: what the file is refused for is the answer, or a fault stopped the job before any
     pub refused_ran : {T : Type 0} (fault : TableFault) {end : End} {taken : SinkTold}
-        → IsTrue job.needs.store → IsTrue job.needs.memory
-        → OneOf statuses.Missing job.statuses → OneOf statuses.Table job.statuses
-        → ((m : Files) (i : List ℕ) → By (from_opening m later) name (Err fault) m i
-        (says (status_of (refusals.Table fault)) (refusal_line (refusals.Table fault)) m))
-        → ((m : Files) (i : List ℕ) → SomeAnswer (λ a. by_file.answers m i a))
+        → SomeTold opponent
         → TableCauses {T = T} store.faults now.faults store.wants now.wants (Err fault)
         → MayRefuse (table_format Plain) name store now fault
         → EndsBy (stop_of_table fault) end out taken
         → Ran by_file end (world store input out steps) (world now input taken steps)
-    refused_ran {T} fault {end} {taken} calls wants missing refused says_so some causes may ends =
+    refused_ran {T} fault {end} {taken} some causes may ends =
         let old = world store input out steps in
         let new = world now input out steps in
         let at = holding store.files name may.held may.may in
         let files = at.files in
+        let answer : Answer = says (status_of (refusals.Table fault))
+        (refusal_line (refusals.Table fault)) files in
         ended by_file (stop_of_table fault) end old new taken
         (quiet_store store now input out steps quiet)
-        (may_stop ℕ by_file (stop_of_table fault) store now input out steps steps calls wants
-        (stop_own fault job.statuses missing refused)
+        (may_stop ℕ by_file (stop_of_table fault) store now input out steps steps refl refl
+        (stop_own fault by_file.statuses refl refl)
         (table_cause T ℕ fault store now causes)) ends
         (λ free left agrees.
         let costs : (a : Answer) → by_file.costs files left a (spent old) (spent new) = λ a.
         opening_within (opened (table_format Plain) (files name)) p
-        (comes (from_opening files later) name left)
+        (Comes (from_opening files later) name left)
         (opening_calls (table_format Plain) (files name))
         (16 + length (held_text (files name))) (spent old) (spent new) refl
         (subst (λ (h : Option (List ℕ)). now.calls ≤ store.calls
@@ -162,16 +162,15 @@ module _ (By : (later : ℕ → Files) (name : List ℕ) → Result Contents Tab
         (subst (λ (h : Option (List ℕ)). now.asked ≤ store.asked + (16 + length (held_text h)))
         (sym at.holds) may.asked) in
         let found = found_at may.held left free agrees.source at in
-        let begun = some files left in
+        let begun = some_at opponent some side p files left (from_opening files later) name in
         stops_by by_file free left old new (opened (table_format Plain) (files name)) fault
         (λ e. record {
           found = found;
           answer = subst
-              (λ (x : Result Contents TableFault). By (from_opening files later) name x files left
-              (says (status_of (refusals.Table fault)) (refusal_line (refusals.Table fault)) files))
-              (sym e) (says_so files left);
-          costs = costs
-              (says (status_of (refusals.Table fault)) (refusal_line (refusals.Table fault)) files);
+              (λ (x : Result Contents TableFault).
+              By (from_opening files later) name x files left answer)
+              (sym e) refl;
+          costs = costs answer;
         })
         (record { found = found; some = begun; costs = costs begun.a })
         (subst (λ (h : Option (List ℕ)). Refuses (opened (table_format Plain) h) fault)

@@ -4,8 +4,10 @@ pub mod LineEnds
 pub mod LineOf
 pub mod LineMeaning
 pub mod Costs
-pub mod Lining
 pub mod SessionEnds
 pub mod SessionOf
 pub mod SessionMeaning
+pub mod WayOf
+pub mod WayJobs
+pub mod Lining
 pub mod Playing

@@ -1,27 +1,21 @@
--- What `line TABLE FEN SIDE` answers: the best line of the side by the codes in the file. No file
--- changes.
-use Rattle.std.specs.Prelude.{◌≡◌, ℕ, List, ◌++◌, slice_index, MatchBool, Result, Ok, Err}
+-- What `line TABLE FEN SIDE` answers at a position of the set: the best line of the side by the
+-- codes in the file. No file changes.
+use Rattle.std.specs.Prelude.{◌≡◌, ℕ, List, ◌++◌, slice_index, Result}
 use Rattle.frz_board.specs.declared.man.Colour.{Colour}
 use Rattle.frz_board.specs.Boards.{Board}
 use Rattle.frz_arena.specs.declared.arm.Next.TheVariants.{Inside}
 use Rattle.frz_exits.specs.Books.{value_by}
 use Rattle.frz_index.specs.Members.{Num}
-use Rattle.frz_game.specs.Numbers.{is_member}
 use Rattle.frz_store.specs.Files.{Files}
-use Rattle.frz_table.specs.declared.fault.TableFault.{TableFault}
-use Rattle.frz_table.specs.declared.kind.FileKind.TheVariants.{Plain}
-use Rattle.frz_table.specs.Opening.{Contents, opened, table_format}
+use Rattle.frz_table.specs.Opening.{Contents}
 use Rattle.frz_check.specs.Kept.{kept_codes}
 use Rattle.frz_answer.specs.Answers.{Answer, says}
-use Rattle.frz_prelude.specs.Refusals.{status_of, refusal_line}
-use Rattle.frz_prelude.specs.declared.refused.Refused.TheVariants as refusals
 use Rattle.frz_ways.specs.declared.end.LineEnd.{LineEnd}
 use Rattle.frz_ways.specs.declared.end.LineFault.{LineFault}
 use Rattle.frz_ways.specs.Costs.{way_numbers}
 use Rattle.frz_ways.specs.Ends as ends
 use Rattle.frz_ways.specs.Lines.{LinePly, EndOfLine, IsLine}
 use Rattle.frz_ways.specs.Texts.{line_text}
-use Rattle.frz_commands_line.specs.Later.{held_later}
 use Rattle.frz_commands_line.specs.LineEnds.{end_status, naming_line}
 
 -- the codes of the side in the bytes that the file holds after k plies
@@ -63,21 +57,3 @@ pub record IsLined
   pub end : EndOfLine
   pub line : IsLineBy contents bytes side p plies end
   pub told : a ≡ line_answer side (code_at contents bytes side p) plies (ends.told side end) files
-
--- the answer by a file that opens: the position has a line, or is outside the set
-abbrev pub IsLinedIn : Contents → (ℕ → List ℕ) → Colour → Board → Files → Answer → Type 0
-IsLinedIn contents bytes side p files a = MatchBool (is_member contents.rules.groups p)
-    (IsLined contents bytes side p files a)
-    (a ≡ says (status_of refusals.Outside) (refusal_line refusals.Outside) files)
-
--- the answer, by how the file opens
-abbrev pub IsLinedBy : Result Contents TableFault → (ℕ → List ℕ) → Colour → Board → Files → Answer
-    → Type 0
-IsLinedBy (Ok contents) bytes side p files a = IsLinedIn contents bytes side p files a
-IsLinedBy (Err fault) bytes side p files a =
-    a ≡ says (status_of (refusals.Table fault)) (refusal_line (refusals.Table fault)) files
-
--- the answer by the file that has the name, and by what the name holds after each number of plies
-abbrev pub IsLinedAt : (later : ℕ → Files) → List ℕ → Colour → Board → Files → Answer → Type 0
-IsLinedAt later table side p files a =
-    IsLinedBy (opened (table_format Plain) (files table)) (held_later later table) side p files a

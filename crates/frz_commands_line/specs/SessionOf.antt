@@ -1,19 +1,14 @@
--- What `play TABLE FEN SIDE` answers: the session of the side by the codes in the file, against the
--- input. No file changes.
-use Rattle.std.specs.Prelude.{◌≡◌, ℕ, ◌-◌, List, ◌++◌, length, MatchBool, Result, Ok, Err}
+-- What `play TABLE FEN SIDE` answers at a position of the set: the session of the side by the codes
+-- in the file, against the input. No file changes.
+use Rattle.std.specs.Prelude.{◌≡◌, ℕ, ◌-◌, List, ◌++◌, length, Result}
 use Rattle.frz_board.specs.declared.man.Colour.{Colour}
 use Rattle.frz_board.specs.Boards.{Board}
 use Rattle.frz_arena.specs.declared.arm.Next.TheVariants.{Inside}
 use Rattle.frz_exits.specs.Books.{value_by}
 use Rattle.frz_index.specs.Members.{Num}
-use Rattle.frz_game.specs.Numbers.{is_member}
 use Rattle.frz_store.specs.Files.{Files}
-use Rattle.frz_table.specs.declared.fault.TableFault.{TableFault}
-use Rattle.frz_table.specs.declared.kind.FileKind.TheVariants.{Plain}
-use Rattle.frz_table.specs.Opening.{Contents, opened, table_format}
-use Rattle.frz_answer.specs.Answers.{Answer, says}
-use Rattle.frz_prelude.specs.Refusals.{status_of, refusal_line}
-use Rattle.frz_prelude.specs.declared.refused.Refused.TheVariants as refusals
+use Rattle.frz_table.specs.Opening.{Contents}
+use Rattle.frz_answer.specs.Answers.{Answer}
 use Rattle.frz_ways.specs.Costs.{way_numbers}
 use Rattle.frz_ways.specs.declared.session_end.PlayFault.{PlayFault}
 use Rattle.frz_ways.specs.declared.session_end.SessionEnd.{SessionEnd}
@@ -21,7 +16,6 @@ use Rattle.frz_ways.specs.SessionEnds.{Tells}
 use Rattle.frz_ways.specs.Reading.{Input}
 use Rattle.frz_ways.specs.Sessions.{SessionPly, EndOfSession, IsSession}
 use Rattle.frz_ways.specs.SessionTexts.{session_text}
-use Rattle.frz_commands_line.specs.Later.{held_later}
 use Rattle.frz_commands_line.specs.LineOf.{code_at, codes_later}
 use Rattle.frz_commands_line.specs.SessionEnds.{session_status, session_naming}
 
@@ -75,23 +69,3 @@ pub record IsPlayed
   pub tells : Tells side end answer
   pub told : a ≡ session_answer side (code_at contents bytes side p) input plies end left answer
       files
-
--- the answer by a file that opens: the position has a session, or is outside the set
-abbrev pub IsPlayedIn : Contents → (ℕ → List ℕ) → Colour → Board → Files → List ℕ → Answer → Type 0
-IsPlayedIn contents bytes side p files input a = MatchBool (is_member contents.rules.groups p)
-    (IsPlayed contents bytes side p files input a)
-    (a ≡ says (status_of refusals.Outside) (refusal_line refusals.Outside) files)
-
--- the answer, by how the file opens
-abbrev pub IsPlayedBy : Result Contents TableFault → (ℕ → List ℕ) → Colour → Board → Files → List ℕ
-    → Answer → Type 0
-IsPlayedBy (Ok contents) bytes side p files input a = IsPlayedIn contents bytes side p files input a
-IsPlayedBy (Err fault) bytes side p files input a =
-    a ≡ says (status_of (refusals.Table fault)) (refusal_line (refusals.Table fault)) files
-
--- the answer by the file that has the name, and by what the name holds after each number of plies
-abbrev pub IsPlayedAt : (later : ℕ → Files) → List ℕ → Colour → Board → Files → List ℕ → Answer
-    → Type 0
-IsPlayedAt later table side p files input a =
-    IsPlayedBy (opened (table_format Plain) (files table)) (held_later later table) side p files
-    input a

@@ -3,7 +3,7 @@ use Rattle.std.specs.Prelude.{map}
 use Rattle.std.specs.String.{string_bytes}
 use Rattle.frz_store.specs.Told.{store_of, source_of, sink_of}
 use Rattle.frz_atlas_prelude.proofs.Lemmas.{small_unread}
-use Rattle.frz_commands_journeys.specs.Journeying.{input_with}
+use Rattle.frz_commands_line.specs.WayJobs.{input_with}
 use Rattle.frz_commands_journeys.proofs.JourneyArrives.{arrived_near, loaded_ran}
 use Rattle.frz_commands_journeys.proofs.TablesUnread.{unread_ran}
 use Rattle.frz_commands_journeys.proofs.journey.play_at.Goals as goal

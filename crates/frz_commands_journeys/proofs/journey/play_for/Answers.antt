@@ -8,7 +8,8 @@ use Rattle.frz_answer.specs.World.{world}
 use Rattle.frz_answer.proofs.Lemmas.{as_given, fine_same, quiet_same, said}
 use Rattle.frz_prelude.specs.Positions.{on_position}
 use Rattle.frz_commands_line.proofs.Lemmas.{as_side}
-use Rattle.frz_commands_journeys.specs.Journeying.{input_with, journeying_at}
+use Rattle.frz_commands_line.specs.WayJobs.{input_with}
+use Rattle.frz_commands_journeys.specs.Journeying.{journeying_at}
 use Rattle.frz_commands_journeys.proofs.journey.play_for.Goals as goal
 
 pub returns-in-Some-clause-ran : goal.returns-in-Some-clause-ran

@@ -2,7 +2,8 @@ use Rattle.std.specs.Prelude.{map}
 use Rattle.std.specs.String.{string_bytes}
 use Rattle.frz_store.specs.Told.{store_of, source_of}
 use Rattle.frz_atlas_prelude.proofs.Lemmas.{ran_asked, ran_unasked}
-use Rattle.frz_commands_journeys.specs.Journeying.{input_with, journeying_named}
+use Rattle.frz_commands_line.specs.WayJobs.{input_with}
+use Rattle.frz_commands_journeys.specs.Journeying.{journeying_named}
 use Rattle.frz_commands_journeys.proofs.journey.run_journey.Goals as goal
 
 pub returns-in-Ok-clause-ran : goal.returns-in-Ok-clause-ran

@@ -1,4 +1,4 @@
-use Rattle.frz_commands_line.proofs.SessionLawful.{play_lawful}
+use Rattle.frz_commands_line.proofs.Lawful.{play_lawful}
 use Rattle.frz_commands_line.proofs.laws.one_play_answer.Goals as goal
 
 pub returns : goal.returns
