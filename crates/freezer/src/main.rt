@@ -22,13 +22,16 @@ use frz_program::command_words;
 use frz_steps::Steps;
 use frz_store::{DiskStore, InputSource, OutputSink, Sink, Source, Store};
 use std::alloc::Global;
-use std::env;
 use std::marker::Brand;
 use std::process::ExitCode;
 use std::sync::ledger::{Blank, Ledger};
+use std::{env, fs};
 
 fn main(rt: HostRuntime) -> ExitCode {
     let alloc = rt.alloc();
+    // Where the caller has closed a standard stream, the next file gets its place: the answer would be
+    // written behind the codes of a new table. A folder in that place is neither read nor written.
+    let _held = [fs::open(&rt, "/"), fs::open(&rt, "/"), fs::open(&rt, "/")];
     let words = match command_words(alloc, env::args(&rt)) {
         Ok(words) => words,
         Err(why) => return ExitCode::from(why.code()),
