@@ -74,3 +74,16 @@ test_examples_tell_other_premises() {
     is "$status" 1 "the status"
     has "$out" "premises $here/B: rules, believed 0; wanted: rules, line 5 believed 8/8 b, believed 1"
 }
+
+test_examples_tell_times_and_check_each_table_where_that_is_wanted() {
+    make_examples
+    mkdir "$room/bin"
+    # shellcheck disable=SC2016 # the fake program reads its words: -o FILE -f FORMAT PROGRAM ..
+    printf '#!/bin/sh\necho 1.50 0.25 2500 > "$2"\nshift 4\n"$@"\n' > "$room/bin/time"
+    chmod +x "$room/bin/time"
+    PATH=$room/bin:$PATH run "$here/run" --times
+    is "$status $err" "0 " "the status"
+    has "$out" "  built 1 (1.75 s, 3 MB)"
+    has "$out" "rules, line 5 believed 8/8 b, believed 1 (1.75 s, 3 MB)"
+    is "$(grep '^freezer check ' "$FAKE_LOG" | cut -d ' ' -f 2-)" "check A.t " "what is checked by itself"
+}
