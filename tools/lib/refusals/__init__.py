@@ -1,0 +1,1 @@
+"""The calls of `check-refusals`, and what the pages say of each."""
