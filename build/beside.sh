@@ -10,7 +10,8 @@ is_there() { [[ $makes -gt 0 && -f ${words[makes]} && -w ${words[makes]} ]]; }
 # Sets `target`, the file itself behind all links, and `half`, an empty file beside it.
 begin_beside() {
     local folder name LC_ALL=C
-    IFS= read -r -d '' target < <(realpath -z -- "${words[makes]}")
+    target=$(realpath -- "${words[makes]}" && echo .)
+    target=${target%$'\n.'}
     folder=${target%/*}/ name=${target##*/}
     if ! half=$(mktemp "$folder${name:0:200}.unfinished-XXXXXX" 2>/dev/null); then
         tell "wanted: a folder that can be written. The new file is made beside the old one in $folder"

@@ -20,6 +20,12 @@ has_kit() {
     goes_on
 }
 
+has_make() {
+    make --version 2>/dev/null | grep -q '^GNU Make' && return 0
+    tell "wanted: GNU make, which runs the proofs. Its command make is not on the PATH"
+    return 1
+}
+
 # The memory of the machine, or what its group of processes may have, in kilobytes.
 memory() {
     local file most total

@@ -2,7 +2,8 @@
 # Runs a program of this repository with the words that it is given and ends with its status. Where it
 # is not built, or a source is newer than it, it is proved and built first (prove.sh). The program's
 # output, its status and the signals that it gets are its own. Two names of one file are refused, a
-# file that is there is replaced only by a whole one, and on a terminal long work tells how far it is.
+# file that is there is replaced only by a whole one, on a terminal long work tells how far it is, and
+# beside some refusals stands what was meant (usage.sh).
 # Sourced by ./freezer and ./atlas, which have `top`, and `crate`, the program's.
 
 program="$top/crates/$crate/out/$crate"
@@ -11,8 +12,13 @@ tell() { echo "$crate: $*" >&2; }
 
 # shellcheck source=build/words.sh
 . "$top/build/words.sh"
+# shellcheck source=build/usage.sh
+. "$top/build/usage.sh"
+# An installed program has no sources beside it, and nothing builds it.
+is_installed() { [ ! -e "$top/crates.txt" ]; }
+
 # shellcheck source=build/prove.sh
-. "$top/build/prove.sh"
+is_installed || . "$top/build/prove.sh"
 # shellcheck source=build/beside.sh
 . "$top/build/beside.sh"
 # shellcheck source=build/watch.sh
@@ -73,6 +79,7 @@ wait_for_child() {
 # The caller sees the status, or the signal, that ended the program.
 end_as_child() {
     trap - "${signals[@]}"
+    tell_hint "$status"
     if [ "$status" -gt 128 ]; then
         ulimit -c 0
         kill -s "$((status - 128))" $$
@@ -85,9 +92,9 @@ run_program() {
     words=("$@")
     find_names "$@"
     ! is_same_file || refuse_same_file
-    is_built || build_once
-    [ $# -gt 0 ] || tell "README.md beside this script says which words there are"
-    if is_there || is_watched; then
+    find_hints
+    is_installed || is_built || { tell_help && build_once; }
+    if [ "${#hints[@]}" -gt 0 ] || is_there || is_watched; then
         run_below
     fi
     exec "$program" "$@"

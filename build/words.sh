@@ -24,8 +24,12 @@ most_backs=16
 # Sets `reads` to the place of the first name and those of the tables behind, which are all words from
 # the place $2 on, where these are so many: $3 at least.
 find_tables_behind() {
-    local backs=$(($1 - $2))
-    [ "$backs" -lt "$3" ] || [ "$backs" -gt "$most_backs" ] || mapfile -t reads < <(echo 1 && seq "$2" $(($1 - 1)))
+    local at backs=$(($1 - $2))
+    [ "$backs" -ge "$3" ] && [ "$backs" -le "$most_backs" ] || return 0
+    reads=(1)
+    for ((at = $2; at < $1; at++)); do
+        reads+=("$at")
+    done
 }
 
 # A word that is no side is refused before any file is looked at.

@@ -1,20 +1,6 @@
 # shellcheck shell=bash
 # ./atlas: what it does otherwise than ./freezer, whose script it shares.
 
-# The toy with a second program, which stands on b alone.
-make_toy_of_two() {
-    make_toy
-    echo 'atlas: b a' >> "$toy/crates.txt"
-    mkdir -p "$toy/crates/atlas/src"
-    echo "// atlas" > "$toy/crates/atlas/src/main.rt"
-}
-
-make_built_toy_of_two() {
-    make_toy_of_two
-    mkdir -p "$toy/crates/atlas/out"
-    cp "$repository/tests/fake/program" "$toy/crates/atlas/out/atlas"
-}
-
 test_atlas_proves_only_what_it_stands_on() {
     make_toy_of_two
     run "$toy/atlas" words
@@ -94,47 +80,4 @@ test_atlas_replaces_a_table_by_a_whole_one() {
     echo 'echo half > "$3"; exit 8' > A
     run "$toy/atlas" build A table one two
     is "$status $(cat table)" "8 new" "the status and the table after a fault"
-}
-
-test_atlas_tells_of_the_tables_behind() {
-    make_built_toy_of_two
-    echo 'sleep 2; head_of_table > "$3"; sleep 2; echo built' > A
-    printf 'FREEZER2\0\0\0\0\0\0\0\4' > one
-    printf 'FREEZERA\0\0\0\0\0\0\0\4' > two
-    out=$(FREEZER_EVERY=0.2 "$repository/tests/terminal" "" 0 "$toy/atlas" build A table one two)
-    has "$out" "atlas: 134217728 numbers: checking the tables behind, 0:0"
-    has "$out" "atlas: 1000 numbers: solving White, 0:0"
-    has "$out" " of about 2:01"
-    printf '#\nsleep 2; echo "exact"\n' > check_me
-    out=$(FREEZER_EVERY=0.2 "$repository/tests/terminal" "" 0 "$toy/atlas" check check_me one)
-    has "$out" "checking it and the tables behind, 0:0"
-}
-
-tells() {
-    echo "echo; sleep 2; echo told" > "$1"
-    out=$(FREEZER_EVERY=0.2 "$repository/tests/terminal" "" 0 "$toy/atlas" "${@:3}")
-    has "$out" "atlas: $2, 0:0"
-    has "$out" told
-    has_not "$out" "unbound"
-}
-
-test_atlas_tells_of_what_it_reads() {
-    make_built_toy_of_two
-    printf 'FREEZER2\0\0\0\0\0\0\0\4' > one
-    tells table "reading it and the tables behind" why table FEN white one
-    tells table "going over it, with the tables behind" report table one
-    tells A "going over the exits" premises A
-    tells A "67108864 numbers: checking the tables behind and the exits" premises A one
-    # shellcheck source=/dev/null
-    . "$toy/build/watch.sh"
-    crate=atlas words=(line one FEN white two)
-    is "$(how_far "")$(of_expected "")" "67108864 numbers: reading it and the tables behind" "that of a line"
-}
-
-test_atlas_tells_nothing_in_a_session() {
-    make_built_toy_of_two
-    out=$(FREEZER_EVERY=0.2 "$repository/tests/terminal" $'\004' 1 "$toy/atlas" play table FEN white one)
-    has "$out" $'play\r\ntable\r\nFEN\r\nwhite\r\none\r\n'
-    has "$out" "status 7"
-    has_not "$out" "atlas:"
 }

@@ -13,7 +13,6 @@ make_toy() {
     cp -r "$repository/freezer" "$repository/atlas" "$repository/try" "$repository/build" "$repository/HANDLES" "$toy"
     cp -r "$repository/tests/fake" "$toy/tests"
     printf '# a toy\na:\nb: a\nc: a arrayvec\nd: b a\nfreezer: c d b a arrayvec\n' > "$toy/crates.txt"
-    printf '# toy\na 4\nb 4\nc 4\nd 4\nfreezer 4\n' > "$toy/build/seconds"
     for name in a b c d freezer; do
         mkdir -p "$toy/crates/$name/src"
         echo "// $name" > "$toy/crates/$name/src/lib.rt"
@@ -26,11 +25,31 @@ make_toy() {
     cd "$room" || exit 1
 }
 
-# The toy with its program, as if it had been built.
+# Programs of the toy, as if they had been built.
+put_programs() {
+    local name
+    for name in "$@"; do
+        mkdir -p "$toy/crates/$name/out"
+        cp "$repository/tests/fake/program" "$toy/crates/$name/out/$name"
+    done
+}
+
 make_built_toy() {
     make_toy
-    mkdir -p "$toy/crates/freezer/out"
-    cp "$repository/tests/fake/program" "$toy/crates/freezer/out/freezer"
+    put_programs freezer
+}
+
+# The toy with a second program, which stands on b alone.
+make_toy_of_two() {
+    make_toy
+    echo 'atlas: b a' >> "$toy/crates.txt"
+    mkdir -p "$toy/crates/atlas/src"
+    echo "// atlas" > "$toy/crates/atlas/src/main.rt"
+}
+
+make_built_toy_of_two() {
+    make_toy_of_two
+    put_programs freezer atlas
 }
 
 # How long the check of a crate of the toy takes.

@@ -20,6 +20,15 @@ test_no_toolchain() {
     is "$err" "try: wanted: the Rattle toolchain. Its command rt is not on the PATH" "what try tells"
 }
 
+test_no_make() {
+    make_toy
+    printf '#!/bin/sh\necho another make\n' > "$room/bin/make"
+    chmod +x "$room/bin/make"
+    run "$toy/freezer" words
+    starts_nothing
+    is "$err" "freezer: wanted: GNU make, which runs the proofs. Its command make is not on the PATH" "what is told"
+}
+
 test_another_kit() {
     make_toy
     FAKE_KIT="rattle-kit-9 logic 0123" run "$toy/freezer" words

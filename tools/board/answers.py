@@ -1,26 +1,28 @@
 """What the page asks about: a position with its moves, a way from it, a report, premises. Each fact in it is
 an answer of `freezer` or of `atlas`."""
 
-from .bounds import read_bound, read_bounds
+from .asking import Asking, Refused
+from .bounds import SIDES, better, read_bound, verdict_of
 from .head import NoTable
-from .listing import Listing
 from .premises import Premises
 from .report import Report
 from .start import first_positions
-from .walks import Walks
 
-ENDS = ("mate", "stalemate")
 LONGEST_WORD = 200
 
 
 class Answers:
-    """The answers about one table, and those behind it."""
+    """The answers about one table, and those behind it; perhaps with another table of the same positions shown
+    beside it, over tables of its own. `first` is a position to begin with, where one is
+    known."""
 
-    def __init__(self, calls, tables):
+    def __init__(self, calls, tables, beside=None, first=None):
         self.calls = calls
         self.tables = tables
-        self.listing = Listing(calls, tables)
-        self.walks = Walks(calls, tables, self.listing)
+        self.first = first
+        self.asking = Asking(calls, tables)
+        self.beside = Asking(calls, beside) if beside else None
+        self.walks = self.asking.walks
         self.courses = {}
         self.begin_courses()
 
@@ -36,6 +38,8 @@ class Answers:
     def refresh(self):
         """Begins anew where a file was written anew; what is wrong with it then, or nothing."""
         try:
+            if self.beside:
+                self.beside.tables.refresh()
             if self.tables.refresh():
                 self.begin_courses()
         except NoTable as why:
@@ -53,64 +57,69 @@ class Answers:
         """What the page is told of the tables."""
         return {
             "tables": self.tables.shown(),
+            "beside": self.beside.tables.shown() if self.beside else [],
             "age": self.tables.age,
             "start": self.start(),
         }
 
     def start(self):
         """A position of the set to begin with, or nothing where none was found."""
-        for fen in first_positions(self.tables.heads[0].text):
+        known = [self.first] if self.first else []
+        for fen in (*known, *first_positions(self.tables.heads[0].text)):
             if self.calls.ask(*self.tables.question(0, fen)).status == 0:
                 return fen
         return None
 
     def position(self, fen, san=""):
         """What is told of a position, or of that after a move."""
-        if not san:
-            return self.at(fen)
-        played = self.calls.ask("freezer", "move", fen, san)
-        return self.at(played.lines[1]) if played.status == 0 else refused(fen, played)
+        try:
+            return self.at(self.asking.after(fen, san) if san else fen)
+        except Refused as why:
+            return {"fen": fen, "refused": str(why)}
+
+    def after(self, fen, san):
+        """A move that is played, and the position after it, with no question about its worth."""
+        try:
+            text, after = self.asking.played(fen, san)
+        except Refused as why:
+            return {"fen": fen, "refused": str(why)}
+        return {"fen": after, "move": text}
 
     def at(self, fen):
         """The bounds at a position, and its legal moves with the bounds after each."""
-        sans, texts, _ = self.calls.ask_all(
-            [("freezer", "sans", fen), ("freezer", "moves", fen), self.tables.question(0, fen)]
-        )
-        if sans.status != 0:
-            return refused(fen, sans)
-        end = sans.text.strip() if sans.text.strip() in ENDS else None
-        named = {} if end else dict(zip(sans.text.split(), texts.text.split()))
-        return {"fen": fen, "turn": turn_of(fen), "end": end, **self.told(fen, named)}
-
-    def told(self, fen, texts):
-        """What the first table that has the position says of it, and of its moves with these texts."""
-        place, answer = self.tables.first(fen)
-        lines = answer.lines if place is not None else []
-        before, side = read_bounds(lines), turn_of(fen)
-        moves = self.listing.moves(fen, place, side, texts) if texts else []
-        return {
+        seen = self.asking.at(fen)
+        told = {
+            "fen": fen,
+            "turn": seen.side,
+            "end": seen.end,
             "age": self.tables.age,
-            "table": place,
-            "said": answer.text.strip(),
-            "bounds": [bound_shown(line) for line in lines],
-            "moves": [move.shown(side, before) for move in moves],
+            "table": seen.place,
+            "said": seen.answer.text.strip(),
+            "verdict": verdict_of(seen.bounds),
+            "bounds": [bound_shown(line) for line in seen.lines],
+            "moves": [move.shown(seen.side, seen.bounds) for move in self.asking.moves(seen)],
         }
+        return self.with_beside(told, seen) if self.beside else told
 
-
-def refused(fen, answer):
-    """A refusal in the program's words."""
-    return {"fen": fen, "refused": answer.text.strip()}
+    def with_beside(self, told, seen):
+        """The same with what the table beside says too: of both each side has the better bound."""
+        other = self.beside.at(seen.fen)
+        name = self.beside.tables.heads[other.place or 0].name
+        words = {move.san: move.said for move in self.beside.moves(other)}
+        for move in told["moves"]:
+            move["beside"] = words[move["san"]]
+        if seen.bounds and other.bounds:
+            told["verdict"] = verdict_of({side: better(seen.bounds[side], other.bounds[side]) for side in SIDES})
+        elif other.bounds:
+            told["verdict"] = verdict_of(other.bounds)
+        lines = [bound_shown(line) for line in other.lines]
+        return {**told, "beside": {"table": name, "said": other.answer.text.strip(), "bounds": lines}}
 
 
 def bound_shown(line):
     """A bound in its words, with its kind and the plies of a win."""
     bound = read_bound(line)
     return {"words": line, "kind": bound.kind, "plies": bound.plies}
-
-
-def turn_of(fen):
-    """The side to move, as the FEN that the program has accepted names it."""
-    return "white" if [word for word in fen.split(" ") if word][1] == "w" else "black"
 
 
 def is_word(text):

@@ -29,6 +29,25 @@ def read_bounds(lines):
     return dict(zip(SIDES, map(read_bound, lines)))
 
 
+def verdict_of(bounds):
+    """What the bounds of both sides say in chess together, where the exit lines are true. Those of two tables
+    may contradict each other."""
+    kinds = {side: bounds[side].kind if bounds else NONE for side in SIDES}
+    for side in SIDES:
+        if kinds[side] == WIN:
+            return f"{side} wins" if kinds[opponent(side)] == NONE else "a contradiction: an exit line is false"
+    holding = [side for side in SIDES if kinds[side] == HOLD]
+    if len(holding) == 2:
+        return "draw"
+    return f"{holding[0]} does not lose" if holding else "not shown"
+
+
+def better(one, other):
+    """The better of two bounds of one side, each true: a win before a hold, and the shorter win."""
+    places = {WIN: 0, HOLD: 1, NONE: 2}
+    return min(one, other, key=lambda bound: (places[bound.kind], bound.plies or 0))
+
+
 def read_value(value):
     """What the value of an exit, in the words of a rules text, says of both sides."""
     said = dict.fromkeys(SIDES, NOTHING)

@@ -17,6 +17,13 @@ KEPT_TEXT = 20_000_000  # characters of all that are kept
 OWN_GROUP = {"process_group": 0} if sys.version_info >= (3, 11) else {"start_new_session": True}
 
 
+class NotBuilt(Exception):
+    """A program that is not there."""
+
+    def __init__(self, name):
+        super().__init__(f"the program {name} is not built; the first call of ./{name} builds it")
+
+
 class Answer:
     """What a call printed, and its status; None where it was stuck and was ended."""
 
@@ -66,6 +73,8 @@ class Calls:
     def call(self, words, seconds):
         try:
             child = self.start(*words)
+        except NotBuilt as why:
+            return Answer(None, str(why))
         except (OSError, ValueError) as fault:
             return Answer(None, f"the program cannot be asked: {fault}")
         try:
@@ -96,14 +105,17 @@ class Calls:
 
     def start(self, *words, files=()):
         """A call that may take long, for who waits for it or ends it. It has these open files too."""
-        child = subprocess.Popen(
-            [self.programs[words[0]], *words[1:]],
-            stdin=subprocess.DEVNULL,
-            stdout=subprocess.PIPE,
-            stderr=subprocess.DEVNULL,
-            pass_fds=files,
-            **OWN_GROUP,
-        )
+        try:
+            child = subprocess.Popen(
+                [self.programs[words[0]], *words[1:]],
+                stdin=subprocess.DEVNULL,
+                stdout=subprocess.PIPE,
+                stderr=subprocess.DEVNULL,
+                pass_fds=files,
+                **OWN_GROUP,
+            )
+        except FileNotFoundError as fault:
+            raise NotBuilt(words[0]) from fault
         self.children.add(child)
         return child
 

@@ -4,7 +4,7 @@ they come."""
 import threading
 import time
 
-from .calls import end
+from .calls import NotBuilt, end
 
 SILENCE = 300  # seconds without a question, after which a course is ended
 MOST_BEHIND = 16
@@ -52,6 +52,9 @@ class Course:
             self.begun = self.heard = time.monotonic()
             try:
                 self.child = self.begin()
+            except NotBuilt as why:
+                self.state, self.last = "refused", str(why)
+                return
             except (OSError, ValueError) as fault:
                 self.state, self.last = "refused", f"the program cannot be asked: {fault}"
                 return

@@ -12,20 +12,14 @@ from .answers import is_word
 from .bounds import SIDES
 
 PAGE = os.path.join(os.path.dirname(os.path.abspath(__file__)), "page")
+SCRIPTS = (
+    "ask", "men", "board", "hand", "tree", "game", "pgn", "save", "keep", "moves", "ways", "rules", "course", "premises",
+    "report", "page",
+)
 FILES = {
     "": ("index.html", "text/html"),
     "page.css": ("page.css", "text/css"),
-    "ask.js": ("ask.js", "text/javascript"),
-    "men.js": ("men.js", "text/javascript"),
-    "board.js": ("board.js", "text/javascript"),
-    "hand.js": ("hand.js", "text/javascript"),
-    "moves.js": ("moves.js", "text/javascript"),
-    "ways.js": ("ways.js", "text/javascript"),
-    "rules.js": ("rules.js", "text/javascript"),
-    "course.js": ("course.js", "text/javascript"),
-    "premises.js": ("premises.js", "text/javascript"),
-    "report.js": ("report.js", "text/javascript"),
-    "page.js": ("page.js", "text/javascript"),
+    **{f"{name}.js": (f"{name}.js", "text/javascript") for name in SCRIPTS},
 }
 LONGEST_PATH = 2_000
 CONNECTIONS = 32  # each has one request at a time
@@ -111,6 +105,8 @@ class Handler(http.server.BaseHTTPRequestHandler):
             self.send_json(answers.shown())
         elif name == "position" and is_word(fen) and is_word(san):
             self.send_json(answers.position(fen, san))
+        elif name == "after" and is_word(fen) and is_word(san):
+            self.send_json(answers.after(fen, san))
         elif name in ("line", "why") and is_word(fen) and side in SIDES:
             self.send_json(getattr(answers.walks, name)(fen, side))
         elif name.partition("/")[0] in answers.courses and name.partition("/")[2] in ("", "start", "stop"):

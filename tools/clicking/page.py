@@ -86,6 +86,9 @@ class Page:
     def has_bounds(self, words):
         return self.wait(lambda: self.bounds() == words)
 
+    def has_bounds_in(self, selector, words):
+        return self.wait(lambda: self.text(selector) == words)
+
     def moves(self):
         """Each move of the list: its notation, what is said of it, and its marks; all read at once,
         since the page may draw the list anew."""
@@ -97,8 +100,14 @@ class Page:
         field.send_keys(fen + "\n")
         self.driver.execute_script("document.activeElement.blur()")
 
-    def press(self, *keys):
-        ActionChains(self.driver).send_keys(*(getattr(Keys, key, key) for key in keys)).perform()
+    def press(self, *keys, held=""):
+        chain = ActionChains(self.driver)
+        if held:
+            chain.key_down(getattr(Keys, held))
+        chain.send_keys(*(getattr(Keys, key, key) for key in keys))
+        if held:
+            chain.key_up(getattr(Keys, held))
+        chain.perform()
 
     def click_move(self, san):
         for button in self.find("#moves .move"):

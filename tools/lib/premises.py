@@ -1,11 +1,9 @@
 """What exit lines rest on, and what the bounds of a side then are in chess: what `premises` prints, read from
-docs/FORMATS.md and, for lines that are true by the men, from docs/PROMISES.md."""
+docs/FORMATS.md."""
 
-from lib.chess import after, legal_moves, write_fen
+from lib.chess import after, legal_moves, side_of, write_fen
 from lib.game import HOLD, SIDES, is_win, opponent
-from lib.rules import holds, read_range
-
-OTHER_KINDS = "QRBNP"
+from lib.rules import holds
 
 
 def exit_numbers(text):
@@ -30,42 +28,27 @@ def line_at(rules, position):
     return next((place for place, fit in enumerate(fits) if fit), None)
 
 
-def has_kind(rules, side, kind):
-    return any(g.colour == side and any(k == kind for k, _ in g.states) for g in rules.groups)
+def men_of(position, side):
+    """The kinds of the side's men beside its king."""
+    return [man.upper() for man in position.men.values() if side_of(man) == side[0] and man.upper() != "K"]
 
 
-def leaves_at_most(rules, line, side, kind, most):
-    """Whether the side has at most so many men of the kind where the line fits, one move outside."""
-    if not has_kind(rules, side, kind) and not has_kind(rules, side, "P"):
-        return True
-    no_pawns = not any(has_kind(rules, colour, "P") for colour in SIDES)
-    of_kind = [g.most for g in rules.groups if g.colour == side and any(k == kind for k, _ in g.states)]
-    if no_pawns and sum(of_kind) <= most:
-        return True
-    return any(
-        c.name == "count" and not c.negated and c.words[:2] == [side, kind] and read_range(c.words[2])[1] <= most
-        for c in line.conditions
-    )
+def is_bare(position, side):
+    return not men_of(position, side)
 
 
-def leaves(rules, line, side, **mosts):
-    return all(leaves_at_most(rules, line, side, kind, mosts.get(kind, 0)) for kind in OTHER_KINDS)
-
-
-def leaves_bare(rules, line, side):
-    return leaves(rules, line, side)
-
-
-def leaves_minor(rules, line, side):
+def has_one_minor(position, side):
     """Beside its king the side has one man at most, a bishop or a knight."""
-    return leaves(rules, line, side, B=1) or leaves(rules, line, side, N=1)
+    men = men_of(position, side)
+    return len(men) <= 1 and all(man in "BN" for man in men)
 
 
-def is_true_by_men(rules, line):
+def men_show(line, position):
+    """Whether the men on the board show that the line is true there."""
     if line.value == "draw":
-        return any(leaves_bare(rules, line, s) and leaves_minor(rules, line, opponent(s)) for s in SIDES)
+        return any(is_bare(position, s) and has_one_minor(position, opponent(s)) for s in SIDES)
     side, _, verb = line.value.partition(" ")
-    return verb == "holds" and leaves_bare(rules, line, opponent(side))
+    return verb == "holds" and is_bare(position, opponent(side))
 
 
 def is_uncounted(line, side):
@@ -92,17 +75,18 @@ def says_as_much(table, line, position):
     return is_win(codes[side]) and soon
 
 
-def basis_of(rules, tables, line, exits):
+def basis_of(tables, line, exits):
     """What a line rests on that decides these exits."""
     if not exits or line.value == "unknown":
         return "asks nothing"
-    if is_true_by_men(rules, line):
+    asked = [position for position in exits if not men_show(line, position)]
+    if not asked:
         return "true by the men"
-    for position in exits:
+    for position in asked:
         if not any(says_as_much(table, line, position) for table in tables):
             return f"believed {write_fen(position)}"
     for place, table in enumerate(tables, 1):
-        if all(says_as_much(table, line, position) for position in exits):
+        if all(says_as_much(table, line, position) for position in asked):
             return f"proved by back {place}"
     return "proved by several backs"
 
@@ -113,7 +97,7 @@ def bases_of(text, game, tables):
     for position in exits_of(game):
         if (place := line_at(game.rules, position)) is not None:
             decided[place].append(position)
-    bases = [basis_of(game.rules, tables, line, exits) for line, exits in zip(game.rules.exits, decided)]
+    bases = [basis_of(tables, line, exits) for line, exits in zip(game.rules.exits, decided)]
     return [f"line {number} {basis}" for number, basis in zip(exit_numbers(text), bases)]
 
 

@@ -5,7 +5,7 @@ ghost use Rattle.std.specs.String.{string_bytes};
 ghost use Rattle.frz_answer.specs.Words.{words_line, one_word_of, two_words_of, three_words_of};
 
 /// Why the words of the command line are no command.
-#[derive(Clone, Copy, Debug, PartialEq, Eq, Drop)]
+#[derive(Clone, Copy, PartialEq, Eq, Drop)]
 pub enum Refusal {
     /// The first word is missing or names no command.
     NoCommand,

@@ -1,7 +1,7 @@
 //! Legal moves as the edges of a graph of positions.
 
 /// Where a move leads.
-#[derive(Clone, Copy, Debug, PartialEq, Eq)]
+#[derive(Clone, Copy, PartialEq, Eq)]
 pub enum Next<N, V> {
     /// To this position of the graph.
     Inside(N),
@@ -18,7 +18,7 @@ impl<N: Default, V> Default for Next<N, V> {
 
 /// A legal move `mv`, whether the mover may play it in the restricted game (`free`), and where it
 /// leads.
-#[derive(Clone, Copy, Debug, PartialEq, Eq)]
+#[derive(Clone, Copy, PartialEq, Eq)]
 pub struct Arm<M, N, V> {
     pub mv: M,
     pub free: bool,

@@ -8,7 +8,7 @@ ghost use Rattle.frz_arena.specs.Chosen.{IsFirst, IsFound};
 use super::codes::is_win;
 
 /// A legal move, as a player who goes by codes sees it.
-#[derive(Clone, Copy, Debug, PartialEq, Eq)]
+#[derive(Clone, Copy, PartialEq, Eq)]
 pub struct Choice {
     /// Whether the mover may play it.
     pub allowed: bool,

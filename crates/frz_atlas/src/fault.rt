@@ -12,7 +12,7 @@ use frz_table::TableFault;
 use std::alloc::{AllocError, AllocFailed};
 
 /// Why a file cannot stand behind another as an exact table.
-#[derive(Clone, Copy, Debug, PartialEq, Eq)]
+#[derive(Clone, Copy, PartialEq, Eq)]
 pub enum BackFault {
     /// The file is refused, or could not be read.
     Refused(TableFault),
@@ -23,7 +23,7 @@ pub enum BackFault {
 /// The first thing that is wrong with the rules, with the table or with one of those behind it, or
 /// why they could not be read. A fault of the store and want of memory have variants of their own,
 /// whichever file they concern.
-#[derive(Clone, Copy, Debug, PartialEq, Eq)]
+#[derive(Clone, Copy, PartialEq, Eq)]
 pub enum AtlasFault {
     /// The rules text is refused.
     Rules(RulesFault),

@@ -13,10 +13,15 @@ use frz_table::{FileKind, open_kind};
 use std::alloc::Global;
 
 /// A table over several others, and these, from the left, each with its codes.
-#[derive(Drop)]
 pub struct LoadedAtlas {
     pub table: BackTable,
     pub backs: Vec<BackTable>,
+}
+
+impl Drop for LoadedAtlas {
+    fn drop(self) {
+        let LoadedAtlas { table: _, backs: _ } = self;
+    }
 }
 
 /// Opens the table, then opens and loads the tables behind it from the left, each as its own kind,

@@ -1,5 +1,6 @@
 -- The lemmas that the crates above cite.
 pub use Rattle.frz_backs.proofs.DecidedTables.{tables_decide}
+pub use Rattle.frz_backs.proofs.ExactOver.{outcomes_over}
 pub use Rattle.frz_backs.proofs.FewTables.{as_a_chain, lines_alone}
 pub use Rattle.frz_backs.proofs.FirstValue.{first_of, front_tells, none_tell, one_tells}
 pub use Rattle.frz_backs.proofs.LinkPlies.{mates_within, tables_within}

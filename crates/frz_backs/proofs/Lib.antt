@@ -8,3 +8,4 @@ mod Transfer
 mod TablePlies
 mod LinkPlies
 mod DecidedTables
+mod ExactOver

@@ -3,4 +3,5 @@ pub mod Links
 pub mod Loaded
 pub mod LinkPlies
 pub mod Decided
+pub mod ExactOver
 pub mod Codes

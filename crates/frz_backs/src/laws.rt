@@ -19,6 +19,8 @@ ghost use Rattle.frz_backs.specs.LinkPlies.{MatesOver};
 ghost use Rattle.frz_backs.specs.Links.{AreExact, AreTrueLines, Link, backs_of};
 ghost use Rattle.frz_backs.specs.Values.{atlas_value};
 
+pub mod exact_over;
+
 /// With no table behind them the exit lines alone give the value. With one table behind them, the
 /// value is that of a chain.
 pub fn few_tables()

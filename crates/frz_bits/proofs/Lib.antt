@@ -1,10 +1,10 @@
 -- Other crates cite the module Lemmas alone.
 pub mod Lemmas
 mod Tables
-mod Next
 mod Gather
 mod Reaching
 mod Men
 mod Put
 mod CountedBits
 mod EndRanks
+mod Hiding

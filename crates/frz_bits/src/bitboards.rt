@@ -1,16 +1,17 @@
 //! A position with the sets of its men as words of 64 bits, and what attacks what in it.
 
-ghost use Rattle.std.specs.Prelude.{◌≡◌, ◌≤◌, ◌==◌, ◌&&◌, not, replicate, slice_index, slice_set};
+ghost use Rattle.std.specs.Prelude.{ℕ, ◌≡◌, ◌<◌, ◌≤◌, ◌==◌, ◌&&◌, not, replicate, slice_index, slice_set};
 ghost use Rattle.frz_board.specs.Men.{is_man_of, man_of_cell, other_of};
 ghost use Rattle.frz_board.specs.Boards.{Board, is_empty, man_on, holds, has};
 ghost use Rattle.frz_board.specs.EnPassant.{has_pawn_beside};
 ghost use Rattle.frz_board.specs.Attacks.{is_clear, reaches, attacks, is_attacked, is_in_check};
-ghost use Rattle.frz_squares.specs.SquareSets.{set_of};
+ghost use Rattle.frz_squares.specs.SquareSets.{has_square, set_of};
 ghost use Rattle.frz_bits.specs.Reaching.{may_attack};
 
 use super::lanes::{cells_equal, cells_from, cells_unlike};
+use super::rays::seen;
 use super::sets::{between, bishop_lines, king_set, knight_set, pawn_set, rook_lines};
-use super::ways::reaching_set;
+use super::ways::{queen_lines, reaching_set};
 use super::word::{both, contains, next_square, replaced, with_square};
 use frz_board::{Colour, Kind, Man, Position, Square, cell_of};
 use std::marker::Model;
@@ -207,6 +208,28 @@ impl Bitboards {
             Kind::Bishop => contains(bishop_lines(a), b) && self.is_clear(a, b),
             Kind::Knight => contains(knight_set(a), b),
             Kind::Pawn => contains(pawn_set(man.colour, a), b),
+        }
+    }
+
+    /// Those of `squares` that no man hides from `s`.
+    fn unhidden(&self, s: Square, squares: u64) -> u64
+        ensures { result ≡ set_of (λ b. has_square squares b && is_clear self.now s b) }
+    {
+        seen(s, squares, self.occupied())
+    }
+
+    /// Those of `squares` that this man, standing on `s`, would attack.
+    pub fn reached(&self, man: Man, s: Square, squares: u64) -> u64
+        ensures { (b : ℕ) → b < 64 → has_square result b
+            ≡ (has_square squares b && reaches self.now man.colour man.kind s b) }
+    {
+        match man.kind {
+            Kind::King => both(squares, king_set(s)),
+            Kind::Queen => self.unhidden(s, both(squares, queen_lines(s))),
+            Kind::Rook => self.unhidden(s, both(squares, rook_lines(s))),
+            Kind::Bishop => self.unhidden(s, both(squares, bishop_lines(s))),
+            Kind::Knight => both(squares, knight_set(s)),
+            Kind::Pawn => both(squares, pawn_set(man.colour, s)),
         }
     }
 

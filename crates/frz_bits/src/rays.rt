@@ -9,7 +9,7 @@ use super::word::{next_square, with_square};
 use frz_board::Square;
 
 /// Those squares of `lines`, lines through `s`, that no occupied square hides from `s`.
-fn seen(s: Square, lines: u64, occupied: u64) -> u64
+pub(crate) fn seen(s: Square, lines: u64, occupied: u64) -> u64
     ensures { result ≡ set_of (λ b. has_square lines b && is_open occupied s b) }
 {
     let mut word = 0;

@@ -20,7 +20,7 @@ fn pawn_ways(c: Colour, s: Square) -> u64
     }
 }
 
-fn queen_lines(s: Square) -> u64
+pub(crate) fn queen_lines(s: Square) -> u64
     ensures { result ≡ set_of (λ b. is_rook_line s b || is_bishop_line s b) }
 {
     rook_lines(s) | bishop_lines(s)

@@ -12,7 +12,7 @@ use std::marker::Model;
 /// A position: 64 cells, a1 first and h8 last, the side to move and the target, the square that a
 /// pawn has just passed over. Each cell is the number of a man, as `cell_of` gives it, or 0 where
 /// the square is empty.
-#[derive(Clone, Copy, Debug)]
+#[derive(Clone, Copy)]
 pub struct Position {
     cells: [u8; 64],
     turn: Colour,

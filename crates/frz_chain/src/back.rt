@@ -9,13 +9,22 @@ use frz_sets::Rules;
 use frz_table::TableFile;
 
 /// A back table: its file as it was opened, and the codes of both sides in it.
-#[derive(Drop)]
 pub struct BackTable {
     pub table: TableFile,
     pub white: Vec<u32>,
     pub black: Vec<u32>,
     pub ghost white_many: { length white.items ≡ table_size table },
     pub ghost black_many: { length black.items ≡ table_size table },
+}
+
+impl Drop for BackTable {
+    fn drop(self) {
+        let BackTable {
+            table: _,
+            white: _,
+            black: _,
+        } = self;
+    }
 }
 
 impl BackTable {

@@ -3,7 +3,7 @@
 use frz_game::Wrong;
 
 /// What a check says of the codes of both sides.
-#[derive(Clone, Copy, Debug, PartialEq, Eq)]
+#[derive(Clone, Copy, PartialEq, Eq)]
 pub enum Verdict {
     /// The codes are the tables of both sides.
     Exact,

@@ -19,7 +19,7 @@ use Rattle.frz_exits.specs.Books.{value_by}
 use Rattle.frz_game.specs.Numbers.{is_member}
 use Rattle.frz_game.proofs.Lemmas.{bound_means, wins_alone, bound_exactly, exits_by_men, text_by_men}
 use Rattle.frz_index.proofs.Lemmas.{member_of, of_member}
-use Rattle.frz_prelude.specs.BoundLines.{bounds_text}
+use Rattle.frz_bound_lines.specs.BoundLines.{bounds_text}
 use Rattle.frz_prelude.specs.Causes.{rules_line}
 use Rattle.frz_commands_ask.specs.Meaning.{TellsBounds, MeansStatus, MeansSolve}
 use Rattle.frz_commands_ask.specs.Solving.{Solves, AreBounds, IsSolvedBy, IsSolvedIn, IsSolvedAt}

@@ -15,9 +15,10 @@ use Rattle.frz_table.specs.Opening.{Contents, opened, table_format}
 use Rattle.frz_table.proofs.Lemmas.{opened_missing}
 use Rattle.frz_check.proofs.Lemmas.{bound_kept}
 use Rattle.frz_answer.specs.Answers.{Answer}
-use Rattle.frz_prelude.specs.BoundLines.{side_name, bound_line, bounds_text, kept_line, kept_text}
+use Rattle.frz_bound_lines.specs.BoundLines.{side_name, bound_line, bounds_text, kept_line, kept_text}
 use Rattle.frz_prelude.specs.declared.refused.Refused.{Refused}
-use Rattle.frz_prelude.proofs.Lemmas.{kept_bound, refused_means}
+use Rattle.frz_bound_lines.proofs.BoundLines.{kept_bound}
+use Rattle.frz_prelude.proofs.Lemmas.{refused_means}
 use Rattle.frz_commands_ask.specs.declared.kept.KeptCodes.{KeptCodes}
 use Rattle.frz_commands_ask.specs.Kept.{kept_at, kept_by, kept_of, answer_by}
 use Rattle.frz_commands_ask.specs.Meaning.{TellsBounds}

@@ -7,7 +7,7 @@ use Rattle.frz_answer.specs.declared.status.Status.TheVariants.{Success, Outside
 use Rattle.frz_answer.specs.Answers.{Answer, says, SomeAnswer}
 use Rattle.frz_board.specs.Boards.{Board}
 use Rattle.frz_sets.specs.Views.{GroupLine, RuleLines}
-use Rattle.frz_prelude.specs.BoundLines.{bounds_text}
+use Rattle.frz_bound_lines.specs.BoundLines.{bounds_text}
 use Rattle.frz_prelude.specs.Refusals.{status_of, refusal_line}
 use Rattle.frz_prelude.specs.RulesFiles.{rules_held}
 use Rattle.frz_prelude.specs.declared.refused.Refused.{Refused}

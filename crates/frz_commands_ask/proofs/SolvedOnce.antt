@@ -20,7 +20,7 @@ use Rattle.frz_arena.proofs.Lemmas.{one_bound}
 use Rattle.frz_exits.specs.Books.{value_by}
 use Rattle.frz_game.specs.Games.{arena_by}
 use Rattle.frz_game.specs.Numbers.{is_member}
-use Rattle.frz_prelude.specs.BoundLines.{bounds_text}
+use Rattle.frz_bound_lines.specs.BoundLines.{bounds_text}
 use Rattle.frz_prelude.specs.Causes.{rules_line}
 use Rattle.frz_prelude.specs.Positions.{on_position}
 use Rattle.frz_prelude.proofs.Lemmas.{fen_lawful}

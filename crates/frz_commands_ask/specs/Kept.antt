@@ -18,7 +18,7 @@ use Rattle.frz_table.specs.Tables.{Table}
 use Rattle.frz_check.specs.Kept.{kept_codes}
 use Rattle.frz_answer.specs.declared.status.Status.TheVariants.{Success}
 use Rattle.frz_answer.specs.Answers.{Answer, says}
-use Rattle.frz_prelude.specs.BoundLines.{kept_text}
+use Rattle.frz_bound_lines.specs.BoundLines.{kept_text}
 use Rattle.frz_prelude.specs.Refusals.{status_of, refusal_line}
 use Rattle.frz_prelude.specs.Stops.{Answers}
 use Rattle.frz_prelude.specs.declared.refused.Refused.{Refused}

@@ -23,7 +23,7 @@ use Rattle.frz_game.specs.ExactBounds.{IsExactWhereFree}
 use Rattle.frz_game.specs.Meaning.{Means, WinsAlone}
 use Rattle.frz_game.specs.TextsByMen.{are_true_by_men}
 use Rattle.frz_game.specs.Values.{AreTrueExits}
-use Rattle.frz_prelude.specs.BoundLines.{bounds_text}
+use Rattle.frz_bound_lines.specs.BoundLines.{bounds_text}
 use Rattle.frz_commands_ask.specs.Solving.{Solves, IsSolvedAt}
 
 -- the text tells the bounds of both sides at a position of the rules' set, in the game of the rules

@@ -16,7 +16,7 @@ use Rattle.frz_answer.specs.declared.status.Status.TheVariants.{Success, Table, 
 use Rattle.frz_answer.specs.Answers.{Answer}
 use Rattle.frz_answer.specs.Jobs.{Job, Once, plain, WithinCosts}
 use Rattle.frz_answer.specs.Words.{taking, two_words_of}
-use Rattle.frz_prelude.specs.BoundLines.{kept_text}
+use Rattle.frz_bound_lines.specs.BoundLines.{kept_text}
 use Rattle.frz_prelude.specs.Positions.{on_position}
 use Rattle.frz_prelude.specs.TableFiles.{OpensAsKind, TellsFaultOfKind}
 use Rattle.frz_commands_ask.specs.Kept.{keeping_bytes, keeping_calls, kept_at, kept_of, answer_by}

@@ -14,7 +14,7 @@ use Rattle.frz_game.specs.Numbers.{is_member}
 use Rattle.frz_game.specs.Bounds.{IsBoundAt}
 use Rattle.frz_index.specs.Members.{Member}
 use Rattle.frz_answer.specs.declared.fault.Fault.TheVariants.{NoMemory}
-use Rattle.frz_prelude.specs.BoundLines.{bounds_text}
+use Rattle.frz_bound_lines.specs.BoundLines.{bounds_text}
 use Rattle.frz_prelude.specs.Causes.{rules_line}
 use Rattle.frz_prelude.specs.declared.refused.Refused.TheVariants as refusals
 use Rattle.frz_prelude.specs.declared.stop.Stop.{Stop}

@@ -14,7 +14,7 @@ use frz_table::{FileKind, TableFile, open_kind};
 use std::alloc::Global;
 
 /// The codes of both sides at one number of a table.
-#[derive(Clone, Copy, Debug)]
+#[derive(Clone, Copy)]
 pub struct KeptCodes {
     pub white: u32,
     pub black: u32,

@@ -22,7 +22,7 @@ use Rattle.frz_check.proofs.Lemmas.{one_file_holds, one_file_opens, tables_are_o
 use Rattle.frz_chain.specs.Books.{Back}
 use Rattle.frz_backs.specs.Links.{AreExact, Link, backs_of}
 use Rattle.frz_backs.specs.Values.{atlas_value}
-use Rattle.frz_backs.proofs.Lemmas.{atlas_small, exits_over_true, mates_within, tables_decide}
+use Rattle.frz_backs.proofs.Lemmas.{atlas_small, exits_over_true, mates_within, outcomes_over, tables_decide}
 use Rattle.frz_answer.specs.declared.status.Status.{Status}
 use Rattle.frz_answer.specs.declared.status.Status.TheVariants as statuses
 use Rattle.frz_answer.specs.Answers.{Answer, says}
@@ -107,10 +107,16 @@ module _ (table : List ℕ) (behind : List (List ℕ)) (files : Files) (are : Ho
               table_exactly rules value Black (kept_codes h.contents h.bytes Black)
               (kept_codes_are_table Black);
           decided = tables_decide rules links links_exact;
+          white_outcomes =
+              outcomes_over rules links links_exact White (kept_codes h.contents h.bytes White)
+              (kept_codes_are_table White);
+          black_outcomes =
+              outcomes_over rules links links_exact Black (kept_codes h.contents h.bytes Black)
+              (kept_codes_are_table Black);
         }
 
   -- the one file of a text over exact tables is exact
-  exact_atlas : HoldsAtlas table behind files
+  abbrev pub exact_atlas : HoldsAtlas table behind files
       → IsJudgedAtlas (files table) (map files behind) verdicts.Exact
   exact_atlas p =
       let contents : Contents = record { text = p.text; rules = p.rules } in

@@ -30,8 +30,8 @@ use Rattle.frz_table.specs.Opening.{Contents}
 use Rattle.frz_check.specs.Kept.{kept_codes}
 use Rattle.frz_check.specs.KeptTables.{KeepsBound, KeepsTables}
 use Rattle.frz_check.proofs.Lemmas.{bound_kept}
-use Rattle.frz_prelude.specs.BoundLines.{bound_text, kept_words, side_name}
-use Rattle.frz_prelude.proofs.Lemmas.{kept_bound}
+use Rattle.frz_bound_lines.specs.BoundLines.{bound_text, kept_words, side_name}
+use Rattle.frz_bound_lines.proofs.BoundLines.{kept_bound}
 use Rattle.frz_commands_atlas.specs.declared.rows.Row.{Row}
 use Rattle.frz_commands_atlas.specs.EachMeans.{TellsBehind}
 use Rattle.frz_commands_atlas.specs.MoveRows.{arms_of, row_by, rows_in}

@@ -15,6 +15,7 @@ use Rattle.frz_table.specs.declared.kind.FileKind.TheVariants.{Atlas}
 use Rattle.frz_table.specs.Layout.{codes_at, magic_of}
 use Rattle.frz_table.specs.Tables.{IsTableFile}
 use Rattle.frz_backs.specs.Decided.{AreLinesOrTables, HasBothOutcomes}
+use Rattle.frz_backs.specs.ExactOver.{HasOutcomesOver}
 use Rattle.frz_backs.specs.LinkPlies.{MatesOver}
 use Rattle.frz_backs.specs.Links.{AreExact, AreTrueLines, Link, backs_of}
 use Rattle.frz_backs.specs.Values.{atlas_value}
@@ -70,3 +71,7 @@ pub record AtlasHeadline (table : List ℕ) (behind : List (List ℕ)) (files : 
   -- by an exit line or lies in the set of a BACK, each value outside TABLE's set decides the game
   pub decided : All HasBothOutcomes links → AreLinesOrTables rules links →
       AreDecidedOutside rules (atlas_value rules (backs_of links))
+  -- the outcomes of a side's codes in TABLE are those of chess under the three conditions that
+  -- HasOutcomesOver names
+  pub white_outcomes : HasOutcomesOver rules links White white
+  pub black_outcomes : HasOutcomesOver rules links Black black

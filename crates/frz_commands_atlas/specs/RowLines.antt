@@ -10,7 +10,7 @@ use Rattle.frz_san.specs.Notation.{san_of}
 use Rattle.frz_sets.specs.declared.exit.Value.{Value}
 use Rattle.frz_arena.specs.declared.arm.Next.{Next}
 use Rattle.frz_arena.specs.declared.arm.Next.TheVariants.{Inside, Outside}
-use Rattle.frz_prelude.specs.BoundLines.{kept_words, side_name}
+use Rattle.frz_bound_lines.specs.BoundLines.{kept_words, side_name}
 use Rattle.frz_ways.specs.Texts.{value_text}
 use Rattle.frz_commands_atlas.specs.declared.rows.Row.{Row}
 

@@ -11,9 +11,9 @@ ghost use Rattle.frz_commands_atlas.specs.RowLines.{behind_text, each_text, free
 use crate::rows::Row;
 use frz_answer::write_piece;
 use frz_board::{Colour, Move, Position};
+use frz_bound_lines::{write_kept_words, write_side_name};
 use frz_fide::{Ending, ending, legal_moves};
 use frz_graph::Next;
-use frz_prelude::{write_kept_words, write_side_name};
 use frz_san::san_among;
 use frz_sets::Value;
 use frz_steps::Steps;

@@ -15,7 +15,7 @@ use frz_store::{Failed, Sink};
 use std::sync::ledger::Ledger;
 
 /// How a move is written: by its two squares, or in algebraic notation as FIDE appendix C has it.
-#[derive(Clone, Copy, Debug, PartialEq, Eq, Drop)]
+#[derive(Clone, Copy, PartialEq, Eq, Drop)]
 pub enum Notation {
     Coordinates,
     Algebraic,

@@ -20,7 +20,7 @@ use Rattle.frz_answer.specs.Answers.{Answer, says}
 use Rattle.frz_prelude.specs.Refusals.{status_of}
 use Rattle.frz_prelude.specs.declared.refused.Refused.{Refused as Refusal}
 use Rattle.frz_prelude.proofs.Lemmas.{by_table_status, of_rules as by_rules}
-use Rattle.frz_premises.proofs.Lemmas.{all_prove, all_true, believed_needs_belief, line_true, none_hold, none_holds, true_over}
+use Rattle.frz_premises.proofs.Lemmas.{all_prove, all_true, believed_needs_belief, line_rests, line_true, none_hold, none_holds, true_over}
 use Rattle.frz_exit_lines.proofs.Lemmas.{as_many_lines, said_there}
 use Rattle.frz_atlas_prelude.specs.BackLines.{back_status}
 use Rattle.frz_atlas_prelude.specs.RulesRefusals.{Refuses, of_back, of_rules}
@@ -40,6 +40,7 @@ lines_mean text rules links read exact = record {
   said = λ k n e. said_there text rules read k n e;
   not_believed = λ own i line there h q x d.
       line_true rules (value_by rules) links (all_prove links exact own) i line there h q x d;
+  rests = λ i line there. line_rests rules links i line;
   believed = λ i line q h. believed_needs_belief rules (value_by rules) links i line q h;
 }
 

@@ -14,7 +14,7 @@ use Rattle.frz_premises.specs.declared.sides.ExitValues.{ExitValues}
 use Rattle.frz_premises.specs.declared.sides.Strength.{Strength}
 use Rattle.frz_premises.specs.declared.sides.Strength.TheVariants.{Believed, Renounced, Undecided, Outcomes, Exact}
 use Rattle.frz_premises.specs.Sides.{exits_tell, renounces, strength_by}
-use Rattle.frz_premises.proofs.Lemmas.{all_true, exact_outcomes, exact_wins, nothing_bad_where_exact, strong_side_is_decided, true_over}
+use Rattle.frz_premises.proofs.Lemmas.{all_true, exact_outcomes, exact_wins, nothing_bad_where_exact, renounced_by, strong_side_is_decided, true_over, undecided_by, undecided_exit}
 use Rattle.frz_commands_premises.specs.PremiseLines.{strength_over}
 use Rattle.frz_commands_premises.specs.SidesMean.{IsTrueInChess, StrengthMeans}
 
@@ -59,12 +59,20 @@ module _ (rules : RuleLines) (links : List Link) (side : Colour) (codes : List �
   by_word Believed e = λ behind here.
       true_codes rules value side codes table
       (true_over rules links tables (all_true links tables behind) here)
-  by_word Renounced e =
-      true_codes rules value side codes table (true_unless (λ b.
-      let no : Renounced ≡ Believed = rw e at b in cc))
+  by_word Renounced e = record {
+    renounced = renounced_by (nat_lt 0 believed) (renounces rules side) told side e;
+    true_codes = true_codes rules value side codes table (true_unless (λ b.
+        let no : Renounced ≡ Believed = rw e at b in cc));
+  }
   by_word Undecided e =
-      true_codes rules value side codes table (true_unless (λ b.
-      let no : Undecided ≡ Believed = rw e at b in cc))
+      let open_exit = undecided_exit rules value
+      (undecided_by (nat_lt 0 believed) (renounces rules side) told side e) in
+      record {
+        exit = open_exit.0;
+        undecided = open_exit.1;
+        true_codes = true_codes rules value side codes table (true_unless (λ b.
+            let no : Undecided ≡ Believed = rw e at b in cc));
+      }
   by_word Outcomes e =
       let exits = true_unless (λ b. let no : Outcomes ≡ Believed = rw e at b in cc) in
       let needs = strong_side_is_decided rules believed told side (inl e) in

@@ -1,7 +1,7 @@
 -- The text of each line that `premises` writes.
 use Rattle.std.specs.Prelude.{ℕ, ◌+◌, ◌<◌, List, ◌++◌, codes, decimal, ⊤}
 use Rattle.frz_fen.specs.Writing.{fen_text}
-use Rattle.frz_prelude.specs.BoundLines.{side_name}
+use Rattle.frz_bound_lines.specs.BoundLines.{side_name}
 use Rattle.frz_premises.specs.declared.basis.Basis.{Basis}
 use Rattle.frz_premises.specs.declared.basis.Basis.TheVariants as basis
 use Rattle.frz_premises.specs.declared.sides.Strength.{Strength}

@@ -20,6 +20,7 @@ use Rattle.frz_premises.specs.declared.basis.Basis.TheVariants.{Believed}
 use Rattle.frz_premises.specs.Bases.{basis_of, is_believed}
 use Rattle.frz_premises.specs.Deciding.{decides}
 use Rattle.frz_premises.specs.Needs.{NeedsBelief}
+use Rattle.frz_premises.specs.RestsOn.{RestsOn}
 use Rattle.frz_answer.specs.declared.status.Status.{Status}
 use Rattle.frz_answer.specs.declared.status.Status.TheVariants as statuses
 use Rattle.frz_answer.specs.Answers.{Answer}
@@ -40,8 +41,11 @@ pub record LinesMean (text : List ℕ) (rules : RuleLines) (links : List Link) :
       is_believed (basis_of rules links i line) ≡ false → (q : Board) →
       IsExit (game_of rules (value_by rules)) q → decides rules.exits i q ≡ true →
       IsTrueValue line.value q
+  -- what the word that is told of a line says of it, at every exit that it decides
+  pub rests : (i : ℕ) (line : ExitLine) → slice_get rules.exits i ≡ Some line →
+      RestsOn rules links i line (basis_of rules links i line)
   -- the line decides the position that is told of a believed one, which is an exit, and neither the
-  -- men nor a table show there what it says
+  -- men there nor a table show what it says
   pub believed : (i : ℕ) (line : ExitLine) (q : Board) →
       basis_of rules links i line ≡ Believed q →
       NeedsBelief rules (value_by rules) links i line q

@@ -1,8 +1,9 @@
 -- What is said of the bounds of a side.
-use Rattle.std.specs.Prelude.{◌≡◌, ◌↔◌, ℕ, List, slice_index}
+use Rattle.std.specs.Prelude.{◌≡◌, ◌↔◌, ℕ, true, List, slice_index}
 use Rattle.frz_board.specs.declared.man.Colour.{Colour}
 use Rattle.frz_board.specs.Boards.{Board}
 use Rattle.frz_board.specs.Men.{other_of}
+use Rattle.frz_sets.specs.declared.exit.Value.{Value}
 use Rattle.frz_sets.specs.Views.{RuleLines}
 use Rattle.frz_index.specs.Members.{Member, Num}
 use Rattle.frz_arena.specs.declared.bound.Bound.TheVariants.{Wins, Holds}
@@ -11,10 +12,13 @@ use Rattle.frz_arena.specs.Codes.{code_of}
 use Rattle.frz_arena.specs.WholeTruth.{MatesIn}
 use Rattle.frz_game.specs.ExactTables.{HasExactOutcomes}
 use Rattle.frz_game.specs.Games.{chess}
-use Rattle.frz_backs.specs.Links.{Link}
+use Rattle.frz_backs.specs.Links.{Link, backs_of}
+use Rattle.frz_backs.specs.Values.{atlas_value}
 use Rattle.frz_premises.specs.Believing.{BeliefHolds, BeliefsHold}
 use Rattle.frz_premises.specs.declared.sides.Strength.{Strength}
 use Rattle.frz_premises.specs.declared.sides.Strength.TheVariants.{Believed, Renounced, Undecided, Outcomes, Exact}
+use Rattle.frz_premises.specs.Sides.{renounces}
+use Rattle.frz_premises.specs.Undecided.{IsUndecided}
 
 -- the codes of the side are true in chess: with a win it forces mate, and with a win or a hold its
 -- opponent does not
@@ -35,12 +39,26 @@ HasExactPlies rules side codes =
     (p : Board) (n : ℕ) → Member rules.groups p →
     (slice_index codes (Num rules.groups p) ≡ code_of (Wins n)) ↔ MatesIn chess side n p
 
+-- the codes are true in chess, and a line of the text forbids the side a move
+pub record IsTrueRenouncing (rules : RuleLines) (side : Colour) (codes : List ℕ) : Type 0 where
+  pub renounced : renounces rules side ≡ true
+  pub true_codes : IsTrueInChess rules side codes
+
+-- the codes are true in chess, and there is an exit, the first, whose value says neither who wins
+-- nor that the game is drawn
+pub record IsTrueUndecided (rules : RuleLines) (value : Board → Value) (side : Colour)
+    (codes : List ℕ) : Type 0 where
+  pub exit : Board
+  pub undecided : IsUndecided rules value exit
+  pub true_codes : IsTrueInChess rules side codes
+
 -- what is said of the codes of a side of RULES over these tables
 abbrev pub StrengthMeans : RuleLines → List Link → Colour → List ℕ → Strength → Type 0
 StrengthMeans rules links side codes Believed =
     BeliefsHold links → BeliefHolds rules links → IsTrueInChess rules side codes
-StrengthMeans rules links side codes Renounced = IsTrueInChess rules side codes
-StrengthMeans rules links side codes Undecided = IsTrueInChess rules side codes
+StrengthMeans rules links side codes Renounced = IsTrueRenouncing rules side codes
+StrengthMeans rules links side codes Undecided =
+    IsTrueUndecided rules (atlas_value rules (backs_of links)) side codes
 StrengthMeans rules links side codes Outcomes = HasExactOutcomes rules side codes
 StrengthMeans rules links side codes Exact =
     HasExactOutcomes rules side codes × HasExactPlies rules side codes

@@ -4,7 +4,7 @@ use frz_board::Colour;
 use frz_premises::{Basis, Strength};
 
 /// A line of the answer.
-#[derive(Clone, Copy, Debug)]
+#[derive(Clone, Copy)]
 pub enum Line {
     /// The lines behind it are of the table at this place; the first has place 0.
     Back(usize),

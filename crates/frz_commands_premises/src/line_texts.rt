@@ -11,8 +11,8 @@ ghost use Rattle.frz_commands_premises.specs.LineTexts.{IsWritable, basis_words,
 use crate::line::Line;
 use frz_answer::{write_line, write_numbered, write_numbered_line, write_piece};
 use frz_board::{Colour, Position};
+use frz_bound_lines::write_side_name;
 use frz_fen::write_fen;
-use frz_prelude::write_side_name;
 use frz_premises::{Basis, Strength};
 use frz_store::{Failed, Sink};
 

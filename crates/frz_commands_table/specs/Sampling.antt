@@ -9,7 +9,7 @@ use Rattle.frz_answer.specs.Jobs.{Job, plain, nothing, steps_alone, WithinCosts}
 use Rattle.frz_answer.specs.Words.{taking, one_word_of}
 use Rattle.frz_board.specs.declared.man.Colour.{Colour}
 use Rattle.frz_board.specs.declared.man.Colour.TheVariants.{White, Black}
-use Rattle.frz_prelude.specs.BoundLines.{side_name}
+use Rattle.frz_bound_lines.specs.BoundLines.{side_name}
 use Rattle.frz_board.specs.Texts.{file_letter, rank_digit}
 use Rattle.frz_sets.specs.Views.{RuleLines}
 use Rattle.frz_rules.specs.Text.{rules_of}

@@ -26,7 +26,7 @@ use frz_table::TableFault;
 use std::alloc::{AllocError, Global};
 
 /// The codes of both sides at one number.
-#[derive(Clone, Copy, Debug)]
+#[derive(Clone, Copy)]
 pub struct Codes {
     pub white: u32,
     pub black: u32,

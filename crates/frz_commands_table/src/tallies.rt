@@ -10,7 +10,7 @@ ghost use Rattle.frz_commands_table.specs.Sampling.{is_code, tally_text, counts_
 use frz_answer::{write_numbered, write_piece};
 use frz_arena::{Bound, code, is_failure, is_win};
 use frz_board::{Colour, Square};
-use frz_prelude::write_side_name;
+use frz_bound_lines::write_side_name;
 use frz_store::{Failed, Sink};
 
 /// The code of a broken number, which belongs to no position of the set.

@@ -23,7 +23,7 @@ use Rattle.frz_answer.specs.declared.end.End.TheVariants.{Done, SinkFault}
 use Rattle.frz_answer.specs.declared.status.Status.{Status}
 use Rattle.frz_answer.specs.Texts.{FailedWithin, TookText, WroteText}
 use Rattle.frz_answer.proofs.Lemmas.{failed_first, failed_next, took_next, took_nothing, wrote_next}
-use Rattle.frz_prelude.specs.BoundLines.{kept_line}
+use Rattle.frz_bound_lines.specs.BoundLines.{kept_line}
 use Rattle.frz_reasons.specs.declared.reason.Reason.{Reason}
 use Rattle.frz_reasons.specs.declared.reason.Reason.TheVariants.{Wrong, Mated, Renounced, Left}
 use Rattle.frz_reasons.specs.FailingGames.{EndsAt, position_behind}

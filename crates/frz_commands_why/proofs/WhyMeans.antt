@@ -36,7 +36,7 @@ use Rattle.frz_atlas.specs.Loading.{opened_all, opened_own}
 use Rattle.frz_answer.specs.declared.status.Status.{Status}
 use Rattle.frz_answer.specs.declared.status.Status.TheVariants as statuses
 use Rattle.frz_answer.specs.Answers.{Answer, says}
-use Rattle.frz_prelude.specs.BoundLines.{kept_line}
+use Rattle.frz_bound_lines.specs.BoundLines.{kept_line}
 use Rattle.frz_prelude.specs.Refusals.{refusal_line, status_of}
 use Rattle.frz_prelude.specs.declared.refused.Refused.TheVariants as refusals
 use Rattle.frz_prelude.proofs.Lemmas.{by_table_status}

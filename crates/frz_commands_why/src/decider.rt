@@ -14,7 +14,7 @@ use frz_index::Set;
 use frz_sets::Rules;
 
 /// What decided the value of a position outside the set.
-#[derive(Clone, Copy, Debug, PartialEq, Eq)]
+#[derive(Clone, Copy, PartialEq, Eq)]
 pub enum Decider {
     /// The exit line with this number in its file; the first line has number 1.
     Line(u32),

@@ -1,7 +1,7 @@
 //! How a game stands for the side to move.
 
 /// How a game stands for the side to move.
-#[derive(Clone, Copy, Debug, PartialEq, Eq)]
+#[derive(Clone, Copy, PartialEq, Eq)]
 pub enum Ending {
     /// No legal move, and the king is attacked (FIDE 5.1.1).
     Mate,

@@ -1,5 +1,5 @@
 -- Opening files of the former format.
-use Rattle.std.proofs.Common.{◌≡◌, refl, sym, ap, subst, ◌∙◌, ℕ, ◌≤◌, List, length, Bool, Ok, Err, cond, arith}
+use Rattle.std.proofs.Common.{◌≡◌, refl, sym, ap, subst, ◌∙◌, ℕ, ◌≤◌, List, Bool, Option, Result, Ok, Err, IfOk, cond, arith}
 use Rattle.std.proofs.lemmas.Bool.{le-ltb}
 use Rattle.frz_combinations.specs.Binomials.{capped}
 use Rattle.frz_sets.specs.Views.{RuleLines}
@@ -9,8 +9,11 @@ use Rattle.frz_rules.specs.Text.{rules_of}
 use Rattle.frz_rules.specs.declared.fault.RulesCause.TheVariants.{SetTooBig}
 use Rattle.frz_rules.specs.declared.fault.RulesFault.{RulesFault}
 use Rattle.frz_table.specs.Numbers.{AreBytes}
-use Rattle.frz_former.specs.OldFiles.{limited, limited_read, old_format, old_magic, old_rules_of}
-use Rattle.frz_table.specs.Steps.{IsFormatOf}
+use Rattle.frz_former.specs.OldFiles.{CarriesOld, OldTable, limited, limited_read, old_format, old_magic, old_rules_of, old_table_size}
+use Rattle.frz_store.specs.Files.{Files}
+use Rattle.frz_table.specs.Steps.{Refines}
+use Rattle.frz_table.specs.Tables.{Holds, IsTableFile}
+use Rattle.frz_table.specs.declared.fault.TableFault.{TableFault}
 use Rattle.frz_table.proofs.Lemmas.{IsHead, read_short, short_bytes}
 
 -- a text whose rules have few numbers is read so
@@ -32,15 +35,8 @@ pub old_refused : (text : List ℕ) (rules : RuleLines) (fault : RulesFault) →
     limited rules ≡ Err fault → old_rules_of text ≡ Err fault
 old_refused text rules fault read is = ap limited_read read ∙ is
 
-pub old_is_format : (magic : List ℕ) → magic ≡ old_magic → IsFormatOf magic old_format
-old_is_format magic is = record { magic_is = sym is; refuses = λ text fault h. ap limited_read h }
-
-pub old_eight : (magic : List ℕ) → magic ≡ old_magic → (length magic ≡ 8) × AreBytes magic
-old_eight magic is = (
-  ap (length {A = ℕ}) is,
-  subst (λ (l : List ℕ). AreBytes l) (sym is)
-      (short_bytes old_magic refl),
-)
+pub old_refines : Refines old_format
+old_refines = record { refuses = λ text fault h. ap limited_read h }
 
 -- a file of the former format can have this text and this size
 pub old_head : (text : List ℕ) (rules : RuleLines) (size : ℕ) → rules_of text ≡ Ok rules
@@ -52,3 +48,11 @@ old_head text rules size read are few = record {
   short = read_short text rules read;
   fits = omega (arith, few);
 }
+
+-- the file is the one of that name
+pub carries_old : (name : List ℕ) (files : Option Files) (r : Result OldTable TableFault)
+    → IfOk r (λ t. Holds files name (IsTableFile old_magic t.text (old_table_size t)))
+    → IfOk r (λ t. t.name ≡ name) → IfOk r (CarriesOld files)
+carries_old name files (Err f) h n = tt
+carries_old name files (Ok t) h n =
+    subst (λ (q : List ℕ). Holds files q (IsTableFile old_magic t.text (old_table_size t))) (sym n) h

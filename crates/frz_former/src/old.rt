@@ -1,6 +1,7 @@
 //! Table files of the former format: opened, and all codes loaded.
 ghost use Rattle.std.specs.Prelude.{◌≡◌, ◌+◌, ◌*◌, ◌≤◌, length, IfOk, IfErr, IfSome, Ok, Err};
 ghost use Rattle.std.specs.Result.{IsErrOf};
+ghost use Rattle.frz_asks.specs.Runs.{Run, end_of};
 ghost use Rattle.frz_board.specs.declared.man.Colour.TheVariants.{White, Black};
 ghost use Rattle.frz_index.specs.OldNumbers.{old_size_of};
 ghost use Rattle.frz_rules.specs.Text.{rules_of};
@@ -8,7 +9,8 @@ ghost use Rattle.frz_sets.specs.Sound.{IsSound};
 ghost use Rattle.frz_store.specs.Files.{bytes_at};
 ghost use Rattle.frz_store.specs.Told.{store_of, StoreQuiet};
 ghost use Rattle.frz_table.specs.declared.fault.TableFault.TheVariants.{NoMemory};
-ghost use Rattle.frz_table.specs.Faults.{IsOutside, TableCauses};
+ghost use Rattle.frz_table.specs.Asking.{loading, opening};
+ghost use Rattle.frz_table.specs.Faults.{IsOutside, TableCauses, stop_of};
 ghost use Rattle.frz_table.specs.Layout.{codes_at, pieces_of};
 ghost use Rattle.frz_table.specs.Memory.{MemoryWanted};
 ghost use Rattle.frz_former.specs.OldFiles.{CarriesOld, MayKeepOld, limited, old_contents_of, old_format, old_magic, old_table_size};
@@ -24,11 +26,20 @@ use std::alloc::Global;
 use std::marker::Model;
 
 /// A table file of the former format that was opened.
-#[derive(Drop)]
 pub struct OldFile {
     name: String,
     text: Vec<u8>,
     rules: Rules,
+}
+
+impl Drop for OldFile {
+    fn drop(self) {
+        let OldFile {
+            name: _,
+            text: _,
+            rules: _,
+        } = self;
+    }
 }
 
 impl Model for OldFile {
@@ -66,10 +77,32 @@ fn limited_size(rules: &Rules) -> Result<u32, RulesFault>
     Ok(size as u32)
 }
 
+/// The steps of opening a table file of the former format.
+fn open_steps<S: Store>(alloc: Global, store: &mut S, name: &str) -> Result<OldFile, TableFault>
+    ensures run { Run (opening old_format name.now) (end_of stop_of old_contents_of result)
+        (store_of S.Store store.old) (store_of S.Store store.new) }
+    ensures name { IfOk result (λ t. t.name ≡ name.now) }
+{
+    let opened = open_text(alloc, store, name, magic())?;
+    let size = match limited_size(&opened.rules) {
+        Ok(size) => size,
+        Err(fault) => return Err(TableFault::Rules(fault)),
+    };
+    check_size(store, name, &opened, size)?;
+    let name = String::from_str(alloc, name)?;
+    Ok(OldFile {
+        name,
+        text: opened.text,
+        rules: opened.rules,
+    })
+}
+
 /// Opens a table file of the former format. The file is not changed. An error of the file is the
 /// first thing that is wrong with it. A set that has more than 2^24 numbers in that format is
 /// refused as too big, after all that the reader of rules refuses.
 pub fn open_old<S: Store>(alloc: Global, store: &mut S, name: &str) -> Result<OldFile, TableFault>
+    ensures run { Run (opening old_format name.now) (end_of stop_of old_contents_of result)
+        (store_of S.Store store.old) (store_of S.Store store.new) }
     ensures opened { IfOk result (λ t. IfSome (S.files store.old)
         (λ m. opened old_format (m name.now) ≡ Ok (old_contents_of t))) }
     ensures refused { IfErr result (λ f. IfSome (S.files store.old)
@@ -94,18 +127,7 @@ pub fn open_old<S: Store>(alloc: Global, store: &mut S, name: &str) -> Result<Ol
     ensures memory { IsErrOf result NoMemory → MemoryWanted old_magic (S.files store.old) name.now
         (S.wants store.old) (S.wants store.new) }
 {
-    let opened = open_text(alloc, store, name, magic())?;
-    let size = match limited_size(&opened.rules) {
-        Ok(size) => size,
-        Err(fault) => return Err(TableFault::Rules(fault)),
-    };
-    check_size(store, name, magic(), &opened, size)?;
-    let name = String::from_str(alloc, name)?;
-    Ok(OldFile {
-        name,
-        text: opened.text,
-        rules: opened.rules,
-    })
+    open_steps(alloc, store, name)
 }
 
 impl OldFile {
@@ -148,6 +170,9 @@ impl OldFile {
         store: &mut S,
     ) -> Result<(Vec<u32>, Vec<u32>), TableFault>
         requires { CarriesOld (S.files store.old) self.now }
+        ensures run { Run (loading self.now.name self.now.text (old_table_size self.now))
+            (end_of stop_of (λ lists. (lists.0.items, lists.1.items)) result)
+            (store_of S.Store store.old) (store_of S.Store store.new) }
         ensures white { IfOk result
             (λ lists. IfSome (S.files store.old) (λ m. IfSome (m self.now.name)
             (λ bytes. lists.0.items ≡ codes_at White self.now.text (old_table_size self.now)

@@ -7,11 +7,20 @@ use crate::entries::CodeList;
 use frz_fide::MoveList;
 
 /// Lists that a solver keeps from number to number, so that none is made anew.
-#[derive(Drop)]
 pub struct Lists {
     pub moves: MoveList,
     pub nexts: NextList,
     pub codes: CodeList,
+}
+
+impl Drop for Lists {
+    fn drop(self) {
+        let Lists {
+            moves: _,
+            nexts: _,
+            codes: _,
+        } = self;
+    }
 }
 
 impl Lists {

@@ -1,5 +1,6 @@
 -- What the candidate of a number below the size says of it.
-use Rattle.std.proofs.Common.{◌≡◌, ◌<◌, ◌↔◌, ℕ, List, Option, None, Some, false, sym, subst, true}
+use Rattle.std.proofs.Common.{◌≡◌, ◌<◌, ◌↔◌, ◌∙◌, ℕ, List, Option, None, Some, false, inl, inr, sym, subst, true}
+use Rattle.std.proofs.lemmas.Bool.{cases_Bool}
 use Rattle.std.specs.Prelude.{MatchOption}
 use Rattle.frz_board.specs.Boards.{Board}
 use Rattle.frz_fide.specs.Valid.{IsValid}
@@ -9,6 +10,9 @@ use Rattle.frz_index.specs.Candidates.{candidate}
 use Rattle.frz_index.specs.FreeSquares.{is_spread}
 use Rattle.frz_index.specs.Kept.{AreApart, AreNumberable}
 use Rattle.frz_index.specs.Members.{Broken, HasNumber}
+use Rattle.frz_index.specs.Membership.{is_valid}
+use Rattle.frz_index.proofs.AtNumbers.{is_candidate}
+use Rattle.frz_index.proofs.Membership.{of_valid, valid_of}
 use Rattle.frz_index.proofs.OwnSquares.{own_number}
 use Rattle.frz_index.proofs.SpreadMembers.{spread}
 
@@ -28,3 +32,15 @@ candidate_answer gs i (Some p) s apart below h = (
     λ k. k.member.valid,
   ),
 )
+
+-- the candidate of a number that is not broken has it
+pub unbroken : (gs : List GroupLine) (i : ℕ) (p : Board) → p ≡ candidate gs i →
+    (IsValid p ↔ HasNumber gs i p) → (Broken gs i → ⊥) → HasNumber gs i p
+unbroken gs i p is told some =
+    elim (cases_Bool (is_valid p)) [
+      | inl e ↦ told.0 (valid_of p e)
+      | inr e ↦ absurd (some (λ q m n.
+          let same = is ∙ is_candidate gs i q (record { member = m; number = n }) in
+          let valid = of_valid p (subst IsValid (sym same) m.valid) in
+          cc))
+    ]

@@ -16,7 +16,6 @@ use frz_sets::{Group, MOST_STATES, Rules, has_state, is_target, radix};
 use std::alloc::{AllocError, Global};
 
 /// The groups of a set, and what is computed from them once.
-#[derive(Drop)]
 pub(crate) struct Plan {
     pub groups: Vec<Group>,
     /// What one unit of each group's digit adds to a number: the product of the later radices.
@@ -32,6 +31,21 @@ pub(crate) struct Plan {
     /// At 64 * cell + square, what this man adds to a number there, where one group alone tells it.
     pub shares: Vec<Option<Share>>,
     pub triangle: Triangle,
+}
+
+impl Drop for Plan {
+    fn drop(self) {
+        let Plan {
+            groups: _,
+            weights: _,
+            whole: _,
+            targets: _,
+            known_squares: _,
+            charts: _,
+            shares: _,
+            triangle: _,
+        } = self;
+    }
 }
 
 /// The length of a list over the 13 cells, empty or one of twelve men, on each of 64 squares.

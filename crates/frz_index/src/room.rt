@@ -1,11 +1,13 @@
 //! Whether a position leaves room for one more man of the set.
 ghost use Rattle.std.specs.Prelude.{◌≡◌, ◌+◌, ◌<◌, length};
+ghost use Rattle.std.specs.List.{AllByRecursion};
 ghost use Rattle.frz_board.specs.Men.{cell_of_man};
 ghost use Rattle.frz_sets.specs.Sets.{is_state};
 ghost use Rattle.frz_sets.specs.Sound.{IsCounted};
 ghost use Rattle.frz_sets.specs.declared.limits.TheConstants.{MOST_STATES};
 ghost use Rattle.frz_index.specs.Charts.{AreCharts, IsChart};
 ghost use Rattle.frz_index.specs.Kept.{AreNumberable};
+ghost use Rattle.frz_index.specs.Places.{IsWithinCount};
 ghost use Rattle.frz_index.specs.Room.{has_room, takes_one_more as group_takes_one_more};
 
 use crate::chart::{Chart, kind_number};
@@ -63,6 +65,47 @@ pub(crate) fn any_takes_one_more(
 {
     for i in 0..groups.len() {
         if takes_one_more(triangle, p, &groups[i], &charts[i], man, s) {
+            return true;
+        }
+    }
+    false
+}
+
+/// `takes_one_more` for a position of the set, in which a group whose least is its most is full.
+fn is_unfilled(
+    triangle: &Triangle,
+    p: &Bitboards,
+    group: &Group,
+    chart: &Chart,
+    man: Man,
+    s: Square,
+) -> bool
+    requires chart { IsChart group.now.states chart.now }
+    requires numberable { IsCounted group.now }
+    requires rows { length group.now.states < triangle.now }
+    requires within { IsWithinCount p.now group.now }
+    ensures { result ≡ group_takes_one_more p.now man s group.now }
+{
+    group.least < group.most && takes_one_more(triangle, p, group, chart, man, s)
+}
+
+/// `any_takes_one_more` for a position of the set.
+pub(crate) fn any_unfilled(
+    triangle: &Triangle,
+    p: &Bitboards,
+    groups: &[Group],
+    charts: &[Chart],
+    man: Man,
+    s: Square,
+) -> bool
+    requires numberable { AreNumberable groups.now }
+    requires charts { AreCharts groups.now charts.now }
+    requires rows { triangle.now ≡ MOST_STATES + 1 }
+    requires within { AllByRecursion (IsWithinCount p.now) groups.now }
+    ensures { result ≡ has_room groups.now p.now man s }
+{
+    for i in 0..groups.len() {
+        if is_unfilled(triangle, p, &groups[i], &charts[i], man, s) {
             return true;
         }
     }

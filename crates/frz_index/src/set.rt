@@ -29,7 +29,7 @@ use crate::beside::number_beside_in;
 use crate::digits::{number_of_digits, put_all};
 use crate::plan::{Plan, plan_of};
 use crate::quotient::{left_over, quotient};
-use crate::room::any_takes_one_more;
+use crate::room::{any_takes_one_more, any_unfilled};
 use crate::turn::{turn_at, turn_number};
 use frz_bits::{Bitboards, contains, without};
 use frz_board::{Colour, Man, Move, NoMemory, Position, Square, cell_of};
@@ -43,9 +43,14 @@ use std::marker::Model;
 ///
 /// Each position of the set has a number of its own, below the size. A number that no position has
 /// is called broken: two men would stand on one square, or the position would not be valid.
-#[derive(Drop)]
 pub struct Set {
     plan: Plan,
+}
+
+impl Drop for Set {
+    fn drop(self) {
+        let Set { plan: _ } = self;
+    }
 }
 
 impl Model for Set {
@@ -166,6 +171,23 @@ impl Set {
     {
         self.may_stand(cell_of(man), s)
             && any_takes_one_more(
+                &self.plan.triangle,
+                p,
+                &self.plan.groups,
+                &self.plan.charts,
+                man,
+                s,
+            )
+    }
+
+    /// `has_room` for a position of the set: only groups are looked at that may have fewer men than
+    /// their most.
+    pub fn has_room_beside(&self, p: &Bitboards, man: Man, s: Square) -> bool
+        requires { Member self.now p.now }
+        ensures { result ≡ has_room self.now p.now man s }
+    {
+        self.may_stand(cell_of(man), s)
+            && any_unfilled(
                 &self.plan.triangle,
                 p,
                 &self.plan.groups,
@@ -319,6 +341,18 @@ impl Set {
             candidate_in(&self.plan, i)
         } else {
             None
+        }
+    }
+
+    /// The position of the set with a number that is not broken, as bitboards. It is made and not
+    /// tested, since it is valid.
+    pub fn boards_of(&self, i: u32) -> Bitboards
+        requires { Broken self.now i → ⊥ }
+        ensures { HasNumber self.now i result }
+    {
+        match self.candidate(i) {
+            None => unreachable!(),
+            Some(p) => p,
         }
     }
 

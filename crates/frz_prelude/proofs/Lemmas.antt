@@ -1,5 +1,4 @@
 -- The lemmas that the crates above cite.
-pub use Rattle.frz_prelude.proofs.BoundLines.{kept_bound}
 pub use Rattle.frz_prelude.proofs.Held.{Holding, holding, of_rules}
 pub use Rattle.frz_prelude.proofs.NamedRules.{read_named, refused_named, some_named}
 pub use Rattle.frz_prelude.proofs.OpenedTables.{

@@ -1,5 +1,4 @@
 pub mod Held
-mod BoundLines
 mod OpenedTables
 mod RefusedTables
 mod NamedRules

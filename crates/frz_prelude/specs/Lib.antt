@@ -1,7 +1,6 @@
 pub mod Causes
 pub mod TableCauses
 pub mod TableFiles
-pub mod BoundLines
 pub mod WrongLines
 pub mod Refusals
 pub mod Stops

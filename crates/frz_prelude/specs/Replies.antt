@@ -9,7 +9,7 @@ use Rattle.frz_answer.specs.declared.end.End.{End}
 use Rattle.frz_answer.specs.World.{world}
 use Rattle.frz_answer.specs.Jobs.{Job}
 use Rattle.frz_answer.specs.Ends.{Ran, Said}
-use Rattle.frz_prelude.specs.BoundLines.{bounds_text, kept_text}
+use Rattle.frz_bound_lines.specs.BoundLines.{bounds_text, kept_text}
 use Rattle.frz_prelude.specs.Stops.{EndsBy}
 use Rattle.frz_prelude.specs.WrongLines.{wrong_line}
 use Rattle.frz_prelude.specs.declared.reply.Reply.{Reply}

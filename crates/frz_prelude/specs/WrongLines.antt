@@ -1,7 +1,7 @@
 -- The line that names an entry of a table which is not its local code.
 use Rattle.std.specs.Prelude.{ℕ, List, ◌++◌, codes, decimal}
 use Rattle.frz_game.specs.declared.wrong.Wrong.{Wrong}
-use Rattle.frz_prelude.specs.BoundLines.{side_name}
+use Rattle.frz_bound_lines.specs.BoundLines.{side_name}
 
 -- the side and the number of an entry
 abbrev pub place_text : Wrong → List ℕ

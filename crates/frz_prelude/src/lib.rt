@@ -3,7 +3,6 @@
 //! The crate also writes the lines of bounds, kept codes, wrong entries and other replies.
 #![tactic(auto)]
 
-mod bound_lines;
 mod causes;
 mod place;
 mod refused;
@@ -16,7 +15,6 @@ mod table_causes;
 mod taken;
 mod wrong_lines;
 
-pub use bound_lines::{write_kept_line, write_kept_words, write_side_name};
 pub use place::number_in;
 pub use refused::Refused;
 pub use refusing::refuse_named;

@@ -9,7 +9,7 @@ use frz_rules::RulesFault;
 use frz_table::TableFault;
 
 /// Why a command refuses its words, or what they name.
-#[derive(Clone, Copy, Debug, PartialEq, Eq, Drop)]
+#[derive(Clone, Copy, PartialEq, Eq, Drop)]
 pub enum Refused {
     /// The words are not those that the command takes.
     Words(Refusal),

@@ -4,18 +4,18 @@ ghost use Rattle.frz_store.specs.Told.{sink_of};
 ghost use Rattle.frz_answer.specs.Texts.{WroteText};
 ghost use Rattle.frz_prelude.specs.Replies.{exact_on_line, moved_lines, reply_status, text_of, Tells};
 
-use crate::bound_lines::{write_bounds, write_kept};
 use crate::stop::Stop;
 use crate::wrong_lines::write_wrong;
 use arrayvec::ArrayString;
 use frz_answer::{End, Status, said, write_line, write_numbered, write_numbered_line, write_piece};
 use frz_arena::Bound;
 use frz_board::{Move, move_text};
+use frz_bound_lines::{write_bounds, write_kept};
 use frz_game::Wrong;
 use frz_store::{Failed, Sink};
 
 /// The reply of a command that says everything at its end.
-#[derive(Clone, Copy, Debug)]
+#[derive(Clone, Copy)]
 pub enum Reply {
     /// A move was made: the move, and the FEN of the position after it.
     Moved(Move, ArrayString<100>),

@@ -13,7 +13,7 @@ use frz_store::{Sink, StoreFault};
 use frz_table::TableFault;
 
 /// What stops a command before it can reply: what its words name is refused, or a fault came.
-#[derive(Clone, Copy, Debug, PartialEq, Eq, Drop)]
+#[derive(Clone, Copy, PartialEq, Eq, Drop)]
 pub enum Stop {
     Refused(Refused),
     Fault(Fault),

@@ -3,8 +3,8 @@ ghost use Rattle.frz_store.specs.Told.{sink_of};
 ghost use Rattle.frz_answer.specs.Texts.{WroteText};
 ghost use Rattle.frz_prelude.specs.WrongLines.{place_text, codes_text, wrong_line, back_wrong_line};
 
-use crate::bound_lines::write_side_name;
 use frz_answer::{write_numbered, write_piece};
+use frz_bound_lines::write_side_name;
 use frz_game::Wrong;
 use frz_store::{Failed, Sink};
 

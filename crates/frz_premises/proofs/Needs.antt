@@ -1,33 +1,32 @@
 -- The exit that is told of a believed line is the first that needs belief.
-use Rattle.std.proofs.Common.{◌≡◌, ◌<◌, ◌+◌, ℕ, inl, inr, length, arith, Bool, true, false, List, [], ◌∷◌, All, get_or, Option, Some, None, refl, sym, subst, ap, ◌∙◌}
+use Rattle.std.proofs.Common.{◌≡◌, ◌<◌, ◌+◌, ℕ, inl, inr, length, arith, Bool, true, false, not, List, [], ◌∷◌, All, get_or, Option, Some, None, refl, sym, subst, ap, ◌∙◌}
 use Rattle.std.specs.Prelude.{find}
 use Rattle.std.specs.List.{Contains, enumerate_from, list_any, position_from}
 use Rattle.std.proofs.lemmas.Bool.{cases_Bool, not-true}
 use Rattle.std.proofs.lemmas.List.Elements.{All-map}
 use Rattle.frz_board.specs.Boards.{Board}
-use Rattle.frz_fide.specs.Valid.{IsValid}
-use Rattle.frz_fide.proofs.Lemmas.{only_legal, valid_after}
 use Rattle.frz_sets.specs.declared.exit.Value.{Value}
 use Rattle.frz_sets.specs.declared.exit.Value.TheVariants.{Unknown}
-use Rattle.frz_sets.specs.Views.{ExitLine, GroupLine, RuleLines}
-use Rattle.frz_index.proofs.Lemmas.{member_of}
+use Rattle.frz_sets.specs.Views.{ExitLine, RuleLines}
 use Rattle.frz_arena.specs.Exits.{IsExit}
 use Rattle.frz_arena.proofs.Lemmas.{first_in, later_in}
 use Rattle.frz_game.specs.Games.{game_of}
-use Rattle.frz_game.specs.TextsByMen.{is_true_by}
 use Rattle.frz_backs.specs.Links.{Link}
 use Rattle.frz_premises.specs.declared.basis.Basis.{Basis}
 use Rattle.frz_premises.specs.declared.basis.Basis.TheVariants.{AsksNothing, ByMen, ByTable, ByTables, Believed}
 use Rattle.frz_exits.specs.Values.{is_unknown}
-use Rattle.frz_premises.specs.Bases.{bases_of, basis_at, basis_of, by_need, by_tables}
+use Rattle.frz_premises.specs.Bases.{asked_of, bases_of, basis_at, basis_of, by_need, by_tables}
 use Rattle.frz_premises.specs.Deciding.{decided_by, decides}
+use Rattle.frz_premises.specs.Men.{men_show}
 use Rattle.frz_premises.specs.Needs.{IsTellable, NeedsBelief}
 use Rattle.frz_premises.specs.Saying.{none_says, says_as_much, says_at_each}
 use Rattle.frz_premises.specs.WaysOut.{outside_of}
 use Rattle.frz_premises.proofs.Exits.{listed_are_exits}
 use Rattle.frz_premises.proofs.InLists.{of_filter}
+use Rattle.frz_premises.proofs.MenShow.{exit_valid}
+use Rattle.frz_premises.proofs.Resting.{Resting, resting}
 
-found_in : {X : Type 0} (test : X → Bool) (xs : List X) (x : X) → find test xs ≡ Some x →
+pub found_in : {X : Type 0} (test : X → Bool) (xs : List X) (x : X) → find test xs ≡ Some x →
     Contains xs x × (test x ≡ true)
 found_in test [] x h = absurd (cc)
 found_in test (y ∷ xs) x h =
@@ -45,25 +44,20 @@ need_is (Some first) place q h = let same : first ≡ q = cc in ap Some same
 need_is None (Some k) q h = absurd (cc)
 need_is None None q h = absurd (cc)
 
-told_need : (groups : List GroupLine) (links : List Link) (line : ExitLine) (qs : List Board)
-    (q : Board) → basis_at groups links line qs ≡ Believed q →
-    (find (none_says links line.value) qs ≡ Some q) × (is_unknown line.value ≡ false)
-    × (is_true_by groups line.conds line.value ≡ false)
-told_need groups links line [] q h = absurd (cc)
-told_need groups links line (first ∷ qs) q h =
-    elim (cases_Bool (is_unknown line.value)) [
-      | inl unknown ↦ absurd (let e : AsksNothing ≡ Believed q = rw unknown at h in cc)
-      | inr known ↦ elim (cases_Bool (is_true_by groups line.conds line.value)) [
-        | inl men ↦ absurd (let e : ByMen ≡ Believed q = rw (known, men) at h in cc)
-        | inr asked ↦ (
-            let e : by_tables links line.value (first ∷ qs) ≡ Believed q =
-            rw (known, asked) at h in (
-              need_is (find (none_says links line.value) (first ∷ qs))
-                  (position_from (says_at_each line.value (first ∷ qs)) 0 links) q e,
-              known,
-              asked,
-            ))
-      ]
+-- the exit is the first that is asked and of which no table says as much
+told_need : (links : List Link) (v : Value) (qs : List Board) (q : Board) →
+    basis_at links v qs ≡ Believed q →
+    (find (none_says links v) (asked_of v qs) ≡ Some q) × (is_unknown v ≡ false)
+told_need links v qs q h =
+    elim (resting links v qs) [
+      | Resting.of_none none is ↦ absurd (let e = sym is ∙ h in cc)
+      | Resting.of_unknown unknown is ↦ absurd (let e = sym is ∙ h in cc)
+      | Resting.of_men none is ↦ absurd (let e = sym is ∙ h in cc)
+      | Resting.of_asked known is ↦ (
+        need_is (find (none_says links v) (asked_of v qs))
+            (position_from (says_at_each v (asked_of v qs)) 0 links) q (sym is ∙ h),
+        known,
+      )
     ]
 
 pub believed_needs_belief : (rules : RuleLines) (value : Board → Value) (links : List Link) (i : ℕ)
@@ -71,24 +65,19 @@ pub believed_needs_belief : (rules : RuleLines) (value : Board → Value) (links
     NeedsBelief rules value links i line q
 believed_needs_belief rules value links i line q h =
     let exits = outside_of rules.groups in
-    let told = told_need rules.groups links line (decided_by rules.exits i exits) q h in
-    let found = found_in (none_says links line.value) (decided_by rules.exits i exits) q told.0 in
-    let kept = of_filter (decides rules.exits i) exits q found.0 in
+    let v = line.value in
+    let qs = decided_by rules.exits i exits in
+    let told = told_need links v qs q h in
+    let found = found_in (none_says links v) (asked_of v qs) q told.0 in
+    let asked = of_filter (λ (z : Board). not (men_show v z)) qs q found.0 in
+    let kept = of_filter (decides rules.exits i) exits q asked.0 in
     record {
       is_exit = listed_are_exits rules value q kept.0;
       decided = kept.1;
       known = told.1;
-      asked = told.2;
-      none = not-true (list_any (λ link. says_as_much line.value link q) links) found.1;
+      asked = not-true (men_show v q) asked.1;
+      none = not-true (list_any (λ link. says_as_much v link q) links) found.1;
     }
-
--- so each exit that is told is a valid position
-exit_valid : (rules : RuleLines) (value : Board → Value) (q : Board) →
-    IsExit (game_of rules value) q → IsValid q
-exit_valid rules value q x =
-    let l = only_legal x.from x.move x.legal in
-    let v = (member_of rules.groups x.from x.begins).valid in
-    subst IsValid x.ends (valid_after x.from x.move v l.0.to l.1)
 
 -- and the table that is told is one of those that are there
 place_is : (need : Option Board) (place : Option ℕ) (k : ℕ) →
@@ -108,21 +97,18 @@ place_below test n (x ∷ xs) k h =
           let below = place_below test (n + 1) xs k e in omega arith)
     ]
 
-told_table : (groups : List GroupLine) (links : List Link) (line : ExitLine) (qs : List Board)
-    (k : ℕ) → basis_at groups links line qs ≡ ByTable k → k < length links
-told_table groups links line [] k h = absurd (cc)
-told_table groups links line (first ∷ qs) k h =
-    elim (cases_Bool (is_unknown line.value)) [
-      | inl unknown ↦ absurd (let e : AsksNothing ≡ ByTable k = rw unknown at h in cc)
-      | inr known ↦ elim (cases_Bool (is_true_by groups line.conds line.value)) [
-        | inl men ↦ absurd (let e : ByMen ≡ ByTable k = rw (known, men) at h in cc)
-        | inr asked ↦ (
-            let e : by_tables links line.value (first ∷ qs) ≡ ByTable k =
-            rw (known, asked) at h in
-            let below = place_below (says_at_each line.value (first ∷ qs)) 0 links k
-            (place_is (find (none_says links line.value) (first ∷ qs))
-            (position_from (says_at_each line.value (first ∷ qs)) 0 links) k e) in omega arith)
-      ]
+told_table : (links : List Link) (v : Value) (qs : List Board) (k : ℕ) →
+    basis_at links v qs ≡ ByTable k → k < length links
+told_table links v qs k h =
+    elim (resting links v qs) [
+      | Resting.of_none none is ↦ absurd (let e = sym is ∙ h in cc)
+      | Resting.of_unknown unknown is ↦ absurd (let e = sym is ∙ h in cc)
+      | Resting.of_men none is ↦ absurd (let e = sym is ∙ h in cc)
+      | Resting.of_asked known is ↦ (
+          let asked = asked_of v qs in
+          let below = place_below (says_at_each v asked) 0 links k
+          (place_is (find (none_says links v) asked)
+          (position_from (says_at_each v asked) 0 links) k (sym is ∙ h)) in omega arith)
     ]
 
 by_basis : (rules : RuleLines) (links : List Link) (i : ℕ) (line : ExitLine) (b : Basis) →
@@ -130,7 +116,7 @@ by_basis : (rules : RuleLines) (links : List Link) (i : ℕ) (line : ExitLine) (
 by_basis rules links i line AsksNothing e = tt
 by_basis rules links i line ByMen e = tt
 by_basis rules links i line (ByTable k) e =
-    told_table rules.groups links line (decided_by rules.exits i (outside_of rules.groups)) k e
+    told_table links line.value (decided_by rules.exits i (outside_of rules.groups)) k e
 by_basis rules links i line ByTables e = tt
 by_basis rules links i line (Believed q) e =
     exit_valid rules (λ q. Unknown) q

@@ -2,7 +2,7 @@
 use Rattle.std.proofs.Common.{◌≡◌, ◌+◌, ℕ, zero, suc, inl, inr, Bool, true, false, List, [], ◌∷◌, map, All, Option, Some, None, refl, sym, subst, ap, ◌∙◌, arith, cond}
 use Rattle.std.specs.Prelude.{slice_get, find, count_by}
 use Rattle.std.specs.List.{Contains, enumerate_from, list_any, position_from}
-use Rattle.std.proofs.lemmas.Bool.{cases_Bool, not-false}
+use Rattle.std.proofs.lemmas.Bool.{cases_Bool}
 use Rattle.std.proofs.lemmas.List.Elements.{All-head, All-tail}
 use Rattle.std.proofs.lemmas.List.Sums.{sum_by-cons}
 use Rattle.frz_board.specs.Boards.{Board}
@@ -11,28 +11,26 @@ use Rattle.frz_sets.specs.declared.exit.Value.{Value}
 use Rattle.frz_sets.specs.declared.exit.Value.TheVariants.{WhiteWins, BlackWins, Draw, WhiteHolds, BlackHolds, Unknown, WhiteWinsIn, BlackWinsIn}
 use Rattle.frz_sets.specs.Views.{ExitLine, RuleLines}
 use Rattle.frz_exits.specs.Books.{value_by}
-use Rattle.frz_exits.specs.Conditions.{conditions_hold}
-use Rattle.frz_index.specs.Membership.{is_member}
 use Rattle.frz_arena.specs.Exits.{IsExit}
 use Rattle.frz_arena.proofs.Lemmas.{none_in_empty}
 use Rattle.frz_game.specs.Games.{game_of}
-use Rattle.frz_game.specs.TextsByMen.{are_true_by_men, is_true_by}
 use Rattle.frz_game.specs.Values.{AreTrueExits, IsTrueValue}
-use Rattle.frz_game.proofs.Lemmas.{exits_by_men, text_by_men}
 use Rattle.frz_backs.specs.Links.{Link, AreExact, AreTrueLines, backs_of}
 use Rattle.frz_backs.specs.Values.{atlas_value}
 use Rattle.frz_backs.proofs.Lemmas.{exits_over_true}
 use Rattle.frz_premises.specs.declared.basis.Basis.{Basis}
 use Rattle.frz_premises.specs.declared.basis.Basis.TheVariants.{Believed}
 use Rattle.frz_exits.specs.Values.{is_unknown}
-use Rattle.frz_premises.specs.Bases.{bases_of, basis_at, basis_of, believed_of, by_need, by_tables, is_believed}
+use Rattle.frz_premises.specs.Bases.{asked_of, bases_of, basis_at, basis_of, believed_of, by_need, by_tables, is_believed}
 use Rattle.frz_premises.specs.Believing.{BeliefHolds}
 use Rattle.frz_premises.specs.Deciding.{decided_by, decides}
 use Rattle.frz_premises.specs.Saying.{none_says, says_as_much, says_at_each}
 use Rattle.frz_premises.specs.WaysOut.{outside_of}
 use Rattle.frz_premises.proofs.Exits.{exits_are_listed}
-use Rattle.frz_premises.proofs.FirstLines.{decides_first, first_cases}
-use Rattle.frz_premises.proofs.InLists.{in_filter, none_found}
+use Rattle.frz_premises.proofs.FirstLines.{first_cases}
+use Rattle.frz_premises.proofs.InLists.{in_filter}
+use Rattle.frz_premises.proofs.MenShow.{men_true}
+use Rattle.frz_premises.proofs.Resting.{Resting, none_asked, resting, shown_or_asked, some_says}
 use Rattle.frz_premises.proofs.TableWords.{Proves, all_prove}
 
 -- what one of several tables says is true where each of them says what is true
@@ -57,60 +55,36 @@ unknown_true BlackHolds q h = absurd (cc)
 unknown_true (WhiteWinsIn n) q h = absurd (cc)
 unknown_true (BlackWinsIn n) q h = absurd (cc)
 
--- the rules with this exit line alone
-abbrev alone : RuleLines → ExitLine → RuleLines
-alone rules line = record rules { exits = line ∷ [] }
-
-alone_true : (rules : RuleLines) (line : ExitLine) →
-    is_true_by rules.groups line.conds line.value ≡ true →
-    are_true_by_men (alone rules line) ≡ true
-unfolding are_true_by_men
-alone_true rules line h = rw h refl
-
-men_true : (rules : RuleLines) (value : Board → Value) (line : ExitLine) (q : Board) →
-    IsExit (game_of rules value) q → conditions_hold q line.conds ≡ true →
-    is_true_by rules.groups line.conds line.value ≡ true → IsTrueValue line.value q
-men_true rules value line q x hold h =
-    let one = alone rules line in
-    let exits = exits_by_men one (value_by one) (text_by_men one (alone_true rules line h)) in
-    let there = exits x.from x.move x.begins x.legal
-    (subst (λ (z : Board). is_member rules.groups z ≡ false) (sym x.ends) x.outside) in
-    let here : IsTrueValue (value_by one q) q =
-    subst (λ (z : Board). IsTrueValue (value_by one z) z) x.ends there in
-    let same : value_by one q ≡ line.value = rw hold refl in
-    subst (λ (v : Value). IsTrueValue v q) same here
-
 -- no exit needs belief where the tables are asked
-tables_told : (links : List Link) (v : Value) (qs : List Board) (q : Board) → Contains qs q →
-    is_believed (by_tables links v qs) ≡ false →
+tables_told : (links : List Link) (v : Value) (asked : List Board) (q : Board) →
+    Contains asked q → is_believed (by_tables links v asked) ≡ false →
     list_any (λ link. says_as_much v link q) links ≡ true
-tables_told links v qs q i h = by_find (find (none_says links v) qs) refl
+tables_told links v asked q i h = by_find (find (none_says links v) asked) refl
   where
-    by_find : (need : Option Board) → find (none_says links v) qs ≡ need →
+    by_find : (need : Option Board) → find (none_says links v) asked ≡ need →
         list_any (λ link. says_as_much v link q) links ≡ true
-    by_find None e =
-        not-false (list_any (λ link. says_as_much v link q) links)
-        (none_found (none_says links v) qs q e i)
+    by_find None e = some_says links v asked q e i
     by_find (Some first) e =
         absurd (let told : is_believed (Believed first) ≡ false =
         sym (ap (λ (o : Option Board). is_believed
-        (by_need o (position_from (says_at_each v qs) 0 links))) e) ∙ h in cc)
+        (by_need o (position_from (says_at_each v asked) 0 links))) e) ∙ h in cc)
 
--- what shows that a line is true at an exit that it decides
+-- what shows that a value is true at an exit that gets it
 shown_line_is_true : (rules : RuleLines) (value : Board → Value) (links : List Link)
     → All Proves links →
-    (line : ExitLine) (q : Board) → IsExit (game_of rules value) q →
-    conditions_hold q line.conds ≡ true → (qs : List Board) → Contains qs q →
-    is_believed (basis_at rules.groups links line qs) ≡ false → IsTrueValue line.value q
-shown_line_is_true rules value links proves line q x hold [] i h = absurd (none_in_empty q i)
-shown_line_is_true rules value links proves line q x hold (first ∷ qs) i h =
-    elim (cases_Bool (is_unknown line.value)) [
-      | inl unknown ↦ unknown_true line.value q unknown
-      | inr known ↦ elim (cases_Bool (is_true_by rules.groups line.conds line.value)) [
-        | inl men ↦ men_true rules value line q x hold men
-        | inr asked ↦ (let told = rw (known, asked) at h in
-            some_proves links line.value q proves
-            (tables_told links line.value (first ∷ qs) q i told))
+    (v : Value) (q : Board) → IsExit (game_of rules value) q → (qs : List Board) →
+    Contains qs q → is_believed (basis_at links v qs) ≡ false → IsTrueValue v q
+shown_line_is_true rules value links proves v q x qs i h =
+    elim (resting links v qs) [
+      | Resting.of_none none is ↦ absurd (none_in_empty q
+          (subst (λ (l : List Board). Contains l q) none i))
+      | Resting.of_unknown unknown is ↦ unknown_true v q unknown
+      | Resting.of_men none is ↦ men_true rules value v q x (none_asked v qs q none i)
+      | Resting.of_asked known is ↦ elim (shown_or_asked v qs q i) [
+        | inl shown ↦ men_true rules value v q x shown
+        | inr asked ↦ some_proves links v q proves
+            (tables_told links v (asked_of v qs) q asked
+            (sym (ap is_believed is) ∙ h))
       ]
     ]
 
@@ -119,12 +93,7 @@ pub line_true : (rules : RuleLines) (value : Board → Value) (links : List Link
     is_believed (basis_of rules links i line) ≡ false → (q : Board) →
     IsExit (game_of rules value) q → decides rules.exits i q ≡ true → IsTrueValue line.value q
 line_true rules value links proves i line there h q x d =
-    let w = decides_first rules.exits q i d in
-    let first = w.1 in
-    let known = first.there in
-    let same : w.0 ≡ line = cc in
-    let hold = subst (λ (l : ExitLine). conditions_hold q l.conds ≡ true) same first.holds in
-    shown_line_is_true rules value links proves line q x hold
+    shown_line_is_true rules value links proves line.value q x
     (decided_by rules.exits i (outside_of rules.groups))
     (in_filter (decides rules.exits i) (outside_of rules.groups) q
     (exits_are_listed rules value q x) d) h

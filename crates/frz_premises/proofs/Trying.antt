@@ -1,6 +1,6 @@
 -- What is known of the exit lines after one more exit.
-use Rattle.std.proofs.Common.{◌≡◌, ◌≢◌, ◌+◌, ◌<◌, ℕ, zero, suc, inl, inr, ◌⊎◌, Bool, true, false, not, ◌&&◌, List, [], ◌∷◌, ◌++◌, map, length, replicate, ◌||◌, is_some, set, Option, Some, None, get_or, refl, sym, subst, ap, ap₂, ◌∙◌, arith, cond, append-nil, zero-add, take, Result, Ok, Err, IfOk}
-use Rattle.std.specs.Prelude.{find, slice_get, unwrap_or}
+use Rattle.std.proofs.Common.{◌≡◌, ◌≢◌, ◌+◌, ◌<◌, ℕ, zero, suc, inl, inr, ◌⊎◌, Bool, true, false, not, ◌&&◌, List, [], ◌∷◌, ◌++◌, map, length, replicate, ◌||◌, is_some, set, Option, Some, None, Vec, Global, get_or, refl, sym, subst, ap, ap₂, ◌∙◌, arith, cond, append-nil, zero-add, take, Result, Ok, Err, IfOk}
+use Rattle.std.specs.Prelude.{find, slice_get}
 use Rattle.std.specs.List.{enumerate_from, filter, list_any, position_from}
 use Rattle.std.specs.Option.{option_or}
 use Rattle.std.proofs.lemmas.Bool.{cases_eq, cases_lt, eq-eqb, ne_eqb}
@@ -16,15 +16,18 @@ use Rattle.frz_arena.specs.declared.arm.Next.{Next}
 use Rattle.frz_arena.specs.declared.arm.Next.TheVariants.{Outside}
 use Rattle.frz_sets.specs.declared.exit.Value.{Value}
 use Rattle.frz_sets.specs.declared.exit.Value.TheVariants.{Unknown}
-use Rattle.frz_sets.specs.Views.{ExitLine, GroupLine, RuleLines}
+use Rattle.frz_sets.specs.Views.{ExitLine, RuleLines}
+use Rattle.frz_exits.specs.Values.{is_unknown}
 use Rattle.frz_backs.specs.Links.{Link}
 use Rattle.frz_chain.specs.declared.back.BackTable.{BackTable}
 use Rattle.frz_premises.specs.declared.basis.Basis.{Basis}
 use Rattle.frz_premises.specs.declared.trial.Trial.{Trial}
-use Rattle.frz_premises.specs.Bases.{bases_of, basis_at, basis_of, by_need, by_tables, by_text}
+use Rattle.frz_premises.specs.declared.basis.Basis.TheVariants.{AsksNothing, ByMen}
+use Rattle.frz_premises.specs.Bases.{asked_of, bases_of, basis_at, basis_of, by_asked, by_need, by_tables}
 use Rattle.frz_exits.specs.Fitting.{line_at}
 use Rattle.frz_premises.specs.Deciding.{decided_by, decides, is_place}
 use Rattle.frz_backs.specs.Loaded.{link_loaded}
+use Rattle.frz_premises.specs.Men.{men_show}
 use Rattle.frz_premises.specs.Saying.{none_says, says_as_much, says_at_each}
 use Rattle.frz_premises.specs.Trials.{AreTried, IsHeard, IsTried, boards_after, is_outside, is_some_there}
 use Rattle.frz_premises.proofs.FirstLines.{decides_first}
@@ -36,6 +39,20 @@ some_there_with_more (x ∷ qs) q = refl
 and_true : (b : Bool) → (b && true) ≡ b
 and_true true = refl
 and_true false = refl
+
+-- the exits at which the men do not show the value, after one more
+not_asked : (v : Value) (qs : List Board) (q : Board) → men_show v q ≡ true →
+    asked_of v (qs ++ q ∷ []) ≡ asked_of v qs
+not_asked v qs q shown =
+    filter-append (λ (z : Board). not (men_show v z)) qs (q ∷ [])
+    ∙ ap (λ (l : List Board). asked_of v qs ++ l) (rw shown refl)
+    ∙ append-nil (asked_of v qs)
+
+one_asked : (v : Value) (qs : List Board) (q : Board) → men_show v q ≡ false →
+    asked_of v (qs ++ q ∷ []) ≡ asked_of v qs ++ q ∷ []
+one_asked v qs q hidden =
+    filter-append (λ (z : Board). not (men_show v z)) qs (q ∷ [])
+    ∙ ap (λ (l : List Board). asked_of v qs ++ l) (rw hidden refl)
 
 -- the first exit that needs belief, after one more
 module _ (links : List Link) (v : Value) (qs : List Board) (q : Board) where
@@ -166,19 +183,43 @@ module _ (backs : List BackTable) (line : ExitLine) (qs : List Board) (q : Board
           says = λ still. absurd (let e : None ≡ Some q = sym still ∙ here in cc);
         }
 
-  pub noted_trial_is_tried : (groups : List GroupLine)
-      → IsTried groups (map link_loaded backs) line qs old →
-      new.settled ≡ old.settled → new.has_exits ≡ true →
-      length new.says.items ≡ length backs →
-      (old.settled ≡ None → IsHeard (map link_loaded backs) line qs old →
-      IsHeard (map link_loaded backs) line (qs ++ q ∷ []) new) →
-      IsTried groups (map link_loaded backs) line (qs ++ q ∷ []) new
-  noted_trial_is_tried groups tried same some many step = record {
-    settled = same ∙ tried.settled;
-    has_exits = some ∙ sym (some_there_with_more qs q);
-    many = many ∙ sym (length-map backs link_loaded);
-    heard = λ none. step (sym same ∙ none) (tried.heard (sym same ∙ none));
-  }
+-- after an exit at which the men show the value
+pub shown_trial_is_tried : (links : List Link) (line : ExitLine) (qs : List Board) (q : Board)
+    (old new : Trial) → IsTried links line qs old → new.value ≡ old.value →
+    new.has_exits ≡ true → new.is_asked ≡ old.is_asked → new.need ≡ old.need →
+    new.says ≡ old.says → men_show old.value q ≡ true → IsTried links line (qs ++ q ∷ []) new
+shown_trial_is_tried links line qs q old new tried value some asked need says shown =
+    let here : men_show line.value q ≡ true = ap (λ v. men_show v q) (sym tried.value) ∙ shown in
+    let same = not_asked line.value qs q here in
+    record {
+      value = value ∙ tried.value;
+      has_exits = some ∙ sym (some_there_with_more qs q);
+      is_asked = asked ∙ (tried.is_asked ∙ ap is_some_there (sym same));
+      many = ap (λ (b : Vec Bool Global). length b.items) says ∙ tried.many;
+      heard = subst (λ (l : List Board). IsHeard links line l new) (sym same) (record {
+        need = need ∙ tried.heard.need;
+        says = λ none. ap (λ (b : Vec Bool Global). b.items) says
+            ∙ tried.heard.says (sym need ∙ none);
+      });
+    }
+
+-- after an exit at which they do not
+pub asked_trial_is_tried : (links : List Link) (line : ExitLine) (qs : List Board) (q : Board)
+    (old new : Trial) → IsTried links line qs old → new.value ≡ old.value →
+    new.has_exits ≡ true → new.is_asked ≡ true → length new.says.items ≡ length links →
+    men_show old.value q ≡ false →
+    IsHeard links line (asked_of line.value qs ++ q ∷ []) new → IsTried links line (qs ++ q ∷ []) new
+asked_trial_is_tried links line qs q old new tried value some asked many hidden heard =
+    let here : men_show line.value q ≡ false = ap (λ v. men_show v q) (sym tried.value) ∙ hidden in
+    let more = one_asked line.value qs q here in
+    record {
+      value = value ∙ tried.value;
+      has_exits = some ∙ sym (some_there_with_more qs q);
+      is_asked = asked ∙ sym (ap is_some_there more
+          ∙ some_there_with_more (asked_of line.value qs) q);
+      many = many;
+      heard = subst (λ (l : List Board). IsHeard links line l new) (sym more) heard;
+    }
 
 -- before the first exit each table has said as much at each
 all_said : (v : Value) (links : List Link) →
@@ -186,19 +227,19 @@ all_said : (v : Value) (links : List Link) →
 all_said v [] = refl
 all_said v (link ∷ links) = ap (λ bs. true ∷ bs) (all_said v links)
 
-pub new_trial_is_tried : (groups : List GroupLine) (links : List Link) (line : ExitLine)
-    (new : Trial)
-    (tables : ℕ) → length links ≡ tables → new.settled ≡ by_text groups line →
-    new.has_exits ≡ false → new.need ≡ None → new.says.items ≡ replicate tables true →
-    IsTried groups links line [] new
-new_trial_is_tried groups links line new tables e settled none need all =
+pub new_trial_is_tried : (links : List Link) (line : ExitLine) (new : Trial) (tables : ℕ) →
+    length links ≡ tables → new.value ≡ line.value → new.has_exits ≡ false →
+    new.is_asked ≡ false → new.need ≡ None → new.says.items ≡ replicate tables true →
+    IsTried links line [] new
+new_trial_is_tried links line new tables e value none unasked need all =
     let said : new.says.items ≡ replicate (length links) true =
     all ∙ ap (λ n. replicate n true) (sym e) in
     record {
-      settled = settled;
+      value = value;
       has_exits = none;
+      is_asked = unasked;
       many = ap length said ∙ length-replicate (length links) true;
-      heard = λ n. record {
+      heard = record {
         need = need;
         says = λ m. said ∙ all_said line.value links;
       };
@@ -235,16 +276,52 @@ need_agrees_with_tables links line qs trial place heard at = by_cases trial.need
         ∙ first_mapped (says_at_each line.value qs) 0 links)
         ∙ sym tables_agree_with_need
 
-pub basis_by : (groups : List GroupLine) (links : List Link) (line : ExitLine)
-    (qs : List Board) (trial : Trial) (place : Option ℕ) → IsTried groups links line qs trial →
-    trial.has_exits ≡ true → trial.settled ≡ None →
+-- where some exit is asked of the tables
+pub basis_by : (links : List Link) (line : ExitLine) (qs : List Board) (trial : Trial)
+    (place : Option ℕ) → IsTried links line qs trial → trial.is_asked ≡ true →
     place ≡ position_from (λ said. said) 0 trial.says.items →
-    by_need trial.need place ≡ basis_at groups links line qs
-basis_by groups links line [] trial place tried some asked at =
+    by_need trial.need place ≡ by_asked links line.value (asked_of line.value qs)
+basis_by links line qs trial place tried asked at = by_list (asked_of line.value qs) refl
+  where
+    by_list : (l : List Board) → asked_of line.value qs ≡ l →
+        by_need trial.need place ≡ by_asked links line.value (asked_of line.value qs)
+    by_list [] e =
+        absurd (let none : true ≡ false = sym asked ∙ (tried.is_asked ∙ ap is_some_there e) in cc)
+    by_list (first ∷ more) e =
+        need_agrees_with_tables links line (asked_of line.value qs) trial place tried.heard at
+        ∙ ap (by_tables links line.value) e ∙ ap (by_asked links line.value) (sym e)
+
+-- where none is, the men show the value at each
+pub basis_by_men : (links : List Link) (line : ExitLine) (qs : List Board) (trial : Trial) →
+    IsTried links line qs trial → trial.is_asked ≡ false →
+    ByMen ≡ by_asked links line.value (asked_of line.value qs)
+basis_by_men links line qs trial tried none = by_list (asked_of line.value qs) refl
+  where
+    by_list : (l : List Board) → asked_of line.value qs ≡ l →
+        ByMen ≡ by_asked links line.value (asked_of line.value qs)
+    by_list [] e = ap (by_asked links line.value) (sym e)
+    by_list (first ∷ more) e =
+        absurd (let some : false ≡ true = sym none ∙ (tried.is_asked ∙ ap is_some_there e) in cc)
+
+-- what a line rests on that has decided some exit, or none
+pub basis_with : (links : List Link) (line : ExitLine) (qs : List Board) (trial : Trial) →
+    IsTried links line qs trial → trial.has_exits ≡ true → is_unknown line.value ≡ false →
+    by_asked links line.value (asked_of line.value qs) ≡ basis_at links line.value qs
+basis_with links line [] trial tried some known =
     absurd (let none : true ≡ false = sym some ∙ tried.has_exits in cc)
-basis_by groups links line (q ∷ qs) trial place tried some asked at =
-    need_agrees_with_tables links line (q ∷ qs) trial place (tried.heard asked) at
-    ∙ ap (λ o. unwrap_or o (by_tables links line.value (q ∷ qs))) (sym asked ∙ tried.settled)
+basis_with links line (q ∷ qs) trial tried some known = rw known refl
+
+pub basis_without : (links : List Link) (line : ExitLine) (qs : List Board) (trial : Trial) →
+    IsTried links line qs trial → trial.has_exits ≡ false →
+    AsksNothing ≡ basis_at links line.value qs
+basis_without links line [] trial tried none = refl
+basis_without links line (q ∷ qs) trial tried none =
+    absurd (let some : false ≡ true = sym none ∙ tried.has_exits in cc)
+
+pub basis_unknown : (links : List Link) (line : ExitLine) (qs : List Board) →
+    is_unknown line.value ≡ true → AsksNothing ≡ basis_at links line.value qs
+basis_unknown links line [] unknown = refl
+basis_unknown links line (q ∷ qs) unknown = rw unknown refl
 
 -- the lines after one more exit
 more_decided : (lines : List ExitLine) (k : ℕ) (qs : List Board) (q : Board) →
@@ -288,7 +365,7 @@ module _ (rules : RuleLines) (links : List Link) (qs : List Board) (q : Board)
   none_decides at = record {
     many = tried.many;
     each = λ k line trial l.
-        subst (λ (l : List Board). IsTried rules.groups links (get_or rules.exits k line) l
+        subst (λ (l : List Board). IsTried links (get_or rules.exits k line) l
         (get_or trials k trial))
         (others_stay rules.exits k qs q (sym (ap (is_place k) at)))
         (tried.each k line trial l);
@@ -297,33 +374,33 @@ module _ (rules : RuleLines) (links : List Link) (qs : List Board) (q : Board)
   -- the line at this place decides it
   module _ (i : ℕ) (at : Some i ≡ line_at rules.exits q) (t : Trial)
       (here : (line : ExitLine) →
-      IsTried rules.groups links (get_or rules.exits i line)
+      IsTried links (get_or rules.exits i line)
       (decided_by rules.exits i qs ++ q ∷ []) t) where
     no_other_line_decides : (k : ℕ) → k ≢ i → decides rules.exits k q ≡ false
     no_other_line_decides k apart = sym (ap (is_place k) at) ∙ ne_eqb i k (λ e. apart (sym e))
 
     by_place : (k : ℕ) (line : ExitLine) (trial : Trial) → k < length (set trials i t) →
         (k ≡ i) ⊎ (k ≡ i → ⊥) →
-        IsTried rules.groups links (get_or rules.exits k line)
+        IsTried links (get_or rules.exits k line)
         (decided_by rules.exits k (qs ++ q ∷ [])) (get_or (set trials i t) k trial)
     by_place k line trial l (inl same) =
-        let P : ℕ → Type 0 = λ j. IsTried rules.groups links (get_or rules.exits j line)
+        let P : ℕ → Type 0 = λ j. IsTried links (get_or rules.exits j line)
         (decided_by rules.exits j (qs ++ q ∷ [])) (get_or (set trials i t) j trial) in
         let many = length-set trials i t in
         let inside : i < length trials = omega arith in
         subst P (sym same)
-        (subst (λ (x : Trial). IsTried rules.groups links (get_or rules.exits i line)
+        (subst (λ (x : Trial). IsTried links (get_or rules.exits i line)
         (decided_by rules.exits i (qs ++ q ∷ [])) x)
         (sym (get_or-set_same trials i t trial inside))
-        (subst (λ (ds : List Board). IsTried rules.groups links (get_or rules.exits i line) ds t)
+        (subst (λ (ds : List Board). IsTried links (get_or rules.exits i line) ds t)
         (sym (this_decides rules.exits i qs q at)) (here line)))
     by_place k line trial l (inr apart) =
         let many = length-set trials i t in
         let inside : k < length trials = omega arith in
-        subst (λ (x : Trial). IsTried rules.groups links (get_or rules.exits k line)
+        subst (λ (x : Trial). IsTried links (get_or rules.exits k line)
         (decided_by rules.exits k (qs ++ q ∷ [])) x)
         (sym (get_or-set_other trials i k t trial apart))
-        (subst (λ (ds : List Board). IsTried rules.groups links (get_or rules.exits k line) ds
+        (subst (λ (ds : List Board). IsTried links (get_or rules.exits k line) ds
         (get_or trials k trial))
         (others_stay rules.exits k qs q (no_other_line_decides k apart))
         (tried.each k line trial inside))
@@ -376,22 +453,19 @@ begun_more P lines trials i line t within is many before this k l x less =
           (subst (λ (z : ExitLine). P z t) (get_or_read lines i line within is l) this)))
     ]
 
-pub all_begun : (groups : List GroupLine) (lines : List ExitLine) (rules : RuleLines)
-    (links : List Link) (trials : List Trial) → rules.groups ≡ groups → rules.exits ≡ lines →
-    length trials ≡ length lines →
+pub all_begun : (lines : List ExitLine) (rules : RuleLines) (links : List Link)
+    (trials : List Trial) → rules.exits ≡ lines → length trials ≡ length lines →
     ((k : ℕ) (line : ExitLine) (trial : Trial) → k < length lines →
-    IsTried groups links (get_or lines k line) [] (get_or trials k trial)) →
+    IsTried links (get_or lines k line) [] (get_or trials k trial)) →
     AreTried rules links [] trials
-all_begun groups lines rules links trials same_groups same_lines many each =
+all_begun lines rules links trials same_lines many each =
     let long = ap length same_lines in
     record {
       many = many ∙ sym long;
       each = λ k line trial l.
-          subst (λ (gs : List GroupLine). IsTried gs links (get_or rules.exits k line) []
-          (get_or trials k trial)) (sym same_groups)
-          (subst (λ (ls : List ExitLine). IsTried groups links (get_or ls k line) []
+          subst (λ (ls : List ExitLine). IsTried links (get_or ls k line) []
           (get_or trials k trial)) (sym same_lines)
-          (each k line trial (omega arith)));
+          (each k line trial (omega arith));
     }
 
 -- what the lines rest on, one by one

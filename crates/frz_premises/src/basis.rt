@@ -5,19 +5,20 @@ ghost use Rattle.frz_premises.specs.Bases as words;
 use frz_board::Position;
 
 /// What an exit line rests on.
-#[derive(Clone, Copy, Debug)]
+#[derive(Clone, Copy)]
 pub enum Basis {
     /// It asks nothing: it decides no exit, or its value is unknown.
     AsksNothing,
-    /// The men alone show that its value is true at each exit that it decides.
+    /// At each exit that it decides the men alone show that its value is true.
     ByMen,
-    /// At each exit that it decides, the table at this place says as much, and no table before it
-    /// does so at each. The first table has place 0.
+    /// At each exit that it decides and the men do not show, the table at this place says as much,
+    /// and no table before it does so at each. The first table has place 0.
     ByTable(usize),
-    /// At each exit that it decides some table says as much, but no table alone does at all of
-    /// them.
+    /// At each exit that it decides and the men do not show, some table says as much, but no table
+    /// alone does at all of them.
     ByTables,
-    /// It is believed. This is the first exit that needs it: there no table says as much.
+    /// It is believed. This is the first exit that needs it: neither the men nor a table show there
+    /// what it says.
     Believed(Position),
 }
 

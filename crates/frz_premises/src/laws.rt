@@ -24,6 +24,7 @@ ghost use Rattle.frz_premises.specs.Bases.{basis_of, believed_of, is_believed};
 ghost use Rattle.frz_premises.specs.Believing.{BeliefHolds, BeliefsHold, believed_in};
 ghost use Rattle.frz_premises.specs.Deciding.{decides};
 ghost use Rattle.frz_premises.specs.Needs.{NeedsBelief};
+ghost use Rattle.frz_premises.specs.RestsOn.{RestsOn};
 ghost use Rattle.frz_premises.specs.Sides.{exits_tell, strength_of};
 ghost use Rattle.frz_premises.specs.WaysOut.{outside_of};
 
@@ -50,8 +51,14 @@ pub fn lines_are_true()
         decides rules.exits i q ≡ true → IsTrueValue line.value q }
 {}
 
-/// The exit that is told of a believed line is one that the line decides, and neither the men nor a
-/// table show there what the line says.
+/// What each word on a line says of it, at every exit that the line decides.
+pub fn lines_rest()
+    ensures { (rules : RuleLines) (links : List Link) (i : ℕ) (line : ExitLine) →
+        RestsOn rules links i line (basis_of rules links i line) }
+{}
+
+/// The exit that is told of a believed line is one that the line decides, and neither the men there
+/// nor a table show what the line says.
 pub fn believed_exits()
     ensures { (rules : RuleLines) (value : Board → Value) (links : List Link) (i : ℕ)
         (line : ExitLine) (q : Board) → basis_of rules links i line ≡ Believed q →

@@ -17,25 +17,20 @@ use crate::walk::walk;
 use frz_chain::BackTable;
 use frz_game::Game;
 use frz_index::Set;
-use frz_sets::{Exit, Group, Rules};
+use frz_sets::{Exit, Rules};
 use frz_steps::Steps;
 use std::alloc::{AllocError, Global};
 use std::sync::ledger::Ledger;
 
 /// The lines of a text, of which none has decided an exit yet, with so many tables.
-fn begin(
-    alloc: Global,
-    groups: &[Group],
-    lines: &[Exit],
-    tables: usize,
-) -> Result<Vec<Trial>, AllocError>
+fn begin(alloc: Global, lines: &[Exit], tables: usize) -> Result<Vec<Trial>, AllocError>
     ensures { IfOk result (λ trials. (rules : RuleLines) (links : List Link) →
-        rules.groups ≡ groups.now → rules.exits ≡ lines.now → length links ≡ tables →
+        rules.exits ≡ lines.now → length links ≡ tables →
         AreTried rules links [] trials.items) }
 {
     let mut trials = Vec::new(alloc);
     for line in lines {
-        let trial = Trial::new(alloc, groups, line, tables)?;
+        let trial = Trial::new(alloc, line.value, tables)?;
         trials.push(trial)?;
     }
     Ok(trials)
@@ -73,9 +68,8 @@ pub fn premises_of<L: Ledger>(
     ensures steps { steps.new ≤ steps.old + size_of rules.now.groups }
     ensures later { steps.old ≤ steps.new }
 {
-    let groups = rules.groups.as_slice();
     let lines = rules.exits.as_slice();
-    let mut trials = begin(alloc, groups, lines, backs.len())?;
+    let mut trials = begin(alloc, lines, backs.len())?;
     let book = Silent;
     let game = Game {
         set,

@@ -16,7 +16,7 @@ use frz_steps::Steps;
 use std::sync::ledger::Ledger;
 
 /// What the values of the exits of a set are.
-#[derive(Clone, Copy, Debug)]
+#[derive(Clone, Copy)]
 pub struct ExitValues {
     /// Each says who wins, or that the game is drawn.
     pub decided: bool,
@@ -27,7 +27,7 @@ pub struct ExitValues {
 }
 
 /// What the bounds of a side are in chess.
-#[derive(Clone, Copy, Debug, PartialEq, Eq)]
+#[derive(Clone, Copy, PartialEq, Eq)]
 pub enum Strength {
     /// They rest on exit lines that are believed.
     Believed,

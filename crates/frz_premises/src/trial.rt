@@ -1,9 +1,9 @@
 //! What is known of an exit line by the exits that were looked at so far.
-ghost use Rattle.std.specs.Prelude.{◌≡◌, ◌<◌, ◌&&◌, ◌++◌, ◌∷◌, [], ℕ, List, length, map, IfOk, slice_index_or, false};
+ghost use Rattle.std.specs.Prelude.{◌≡◌, ◌<◌, ◌&&◌, ◌++◌, ◌∷◌, [], ℕ, List, length, map, IfOk, slice_index_or, true, false};
 ghost use Rattle.std.specs.List.{list_any, position_from};
 ghost use Rattle.frz_board.specs.Boards.{Board};
 ghost use Rattle.frz_fide.specs.Valid.{IsValid};
-ghost use Rattle.frz_sets.specs.Views.{ExitLine, GroupLine};
+ghost use Rattle.frz_sets.specs.Views.{ExitLine};
 ghost use Rattle.frz_backs.specs.Links.{Link};
 ghost use Rattle.frz_chain.specs.declared.back.BackTable.{BackTable as Table};
 ghost use Rattle.frz_premises.specs.Bases as words;
@@ -11,21 +11,23 @@ ghost use Rattle.frz_premises.specs.Saying as saying;
 ghost use Rattle.frz_backs.specs.Loaded.{link_loaded};
 
 use crate::basis::Basis;
-use crate::men::by_text;
+use crate::men::men_show;
 use crate::saying::says_as_much;
 use frz_bits::Bitboards;
 use frz_board::Position;
 use frz_chain::BackTable;
-use frz_sets::{Exit, Group, Value};
+use frz_exits::is_unknown;
+use frz_sets::Value;
 use std::alloc::{AllocError, Global};
 
-/// What is known of an exit line so far: what the text alone shows, whether the line decided an
-/// exit, the first exit that it decided where no table says as much, and for each table, as long as
-/// there is no such exit, whether it said as much at each exit.
+/// What is known of an exit line with this value so far: whether it decided an exit, and whether the
+/// men did not show the value at one of them. Of these others, the first where no table says as
+/// much, and for each table, as long as there is no such exit, whether it said as much at each.
 #[derive(Drop)]
 pub struct Trial {
-    pub settled: Option<Basis>,
+    pub value: Value,
     pub has_exits: bool,
+    pub is_asked: bool,
     pub need: Option<Position>,
     pub says: Vec<bool>,
 }
@@ -71,55 +73,68 @@ fn by_need(need: Option<Position>, place: Option<usize>) -> Basis
 }
 
 impl Trial {
-    ghost use Rattle.frz_premises.specs.Trials.{IsTried};
+    ghost use Rattle.frz_premises.specs.Trials.{IsHeard, IsTried};
 
-    /// Of a line that has decided no exit yet, with so many tables.
-    pub fn new(
-        alloc: Global,
-        groups: &[Group],
-        line: &Exit,
-        tables: usize,
-    ) -> Result<Trial, AllocError>
-        ensures { IfOk result (λ trial. (links : List Link) → length links ≡ tables →
-            IsTried groups.now links line.now [] trial) }
+    /// Of a line with this value that has decided no exit yet, with so many tables.
+    pub fn new(alloc: Global, value: Value, tables: usize) -> Result<Trial, AllocError>
+        ensures { IfOk result (λ trial. (links : List Link) (line : ExitLine) →
+            line.value ≡ value → length links ≡ tables → IsTried links line [] trial) }
     {
         Ok(Trial {
-            settled: by_text(groups, line),
+            value,
             has_exits: false,
+            is_asked: false,
             need: None,
             says: vec![in alloc; true; tables]?,
         })
     }
 
-    /// Notes one more exit that the line decides. The value is that of the line.
-    pub fn note(&mut self, value: Value, backs: &[BackTable], q: &Bitboards)
+    /// Notes one more exit at which the men do not show the value.
+    fn ask(&mut self, backs: &[BackTable], q: &Bitboards)
         requires valid { IsValid q.now }
         requires many { length self.old.says.items ≡ length backs.now }
-        ensures { (groups : List GroupLine) (line : ExitLine) (qs : List Board) →
-            line.value ≡ value → IsTried groups (map link_loaded backs.now) line qs self.old →
-            IsTried groups (map link_loaded backs.now) line (qs ++ q.now ∷ []) self.new }
+        ensures value { self.new.value ≡ self.old.value }
+        ensures has_exits { self.new.has_exits ≡ self.old.has_exits }
+        ensures is_asked { self.new.is_asked ≡ true }
+        ensures many { length self.new.says.items ≡ length backs.now }
+        ensures heard { (line : ExitLine) (qs : List Board) → line.value ≡ self.old.value →
+            IsHeard (map link_loaded backs.now) line qs self.old →
+            IsHeard (map link_loaded backs.now) line (qs ++ q.now ∷ []) self.new }
     {
-        self.has_exits = true;
-        if self.settled.is_none() && self.need.is_none() {
-            let said = hear(&mut self.says, value, backs, q);
+        self.is_asked = true;
+        if self.need.is_none() {
+            let said = hear(&mut self.says, self.value, backs, q);
             if !said {
                 self.need = Some(*q.as_position());
             }
         }
     }
 
+    /// Notes one more exit that the line decides.
+    pub fn note(&mut self, backs: &[BackTable], q: &Bitboards)
+        requires valid { IsValid q.now }
+        requires many { length self.old.says.items ≡ length backs.now }
+        ensures { (line : ExitLine) (qs : List Board) →
+            IsTried (map link_loaded backs.now) line qs self.old →
+            IsTried (map link_loaded backs.now) line (qs ++ q.now ∷ []) self.new }
+    {
+        self.has_exits = true;
+        if !men_show(self.value, q) {
+            self.ask(backs, q);
+        }
+    }
+
     /// What the line rests on by the exits so far.
     pub fn basis(&self) -> Basis
-        ensures { (groups : List GroupLine) (links : List Link) (line : ExitLine)
-            (qs : List Board) → IsTried groups links line qs self.now →
-            result ≡ words.basis_at groups links line qs }
+        ensures { (links : List Link) (line : ExitLine) (qs : List Board) →
+            IsTried links line qs self.now → result ≡ words.basis_at links line.value qs }
     {
-        if !self.has_exits {
+        if !self.has_exits || is_unknown(self.value) {
             return Basis::AsksNothing;
         }
-        match self.settled {
-            Some(basis) => basis,
-            None => by_need(self.need, first_true(&self.says)),
+        if !self.is_asked {
+            return Basis::ByMen;
         }
+        by_need(self.need, first_true(&self.says))
     }
 }

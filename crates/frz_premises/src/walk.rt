@@ -30,8 +30,7 @@ fn note(trials: &mut [Trial], rules: &Rules, backs: &[BackTable], q: &Bitboards)
         AreTried rules.now (map link_loaded backs.now) (qs ++ q.now ∷ []) trials.new }
 {
     if let Some(i) = fitting_line(&rules.exits, q) {
-        let value = rules.exits[i].value;
-        trials[i].note(value, backs, q);
+        trials[i].note(backs, q);
     }
 }
 

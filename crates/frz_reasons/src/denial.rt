@@ -3,7 +3,7 @@
 use frz_board::Move;
 
 /// A move, and the reply to it that denies the side a win, if one is named.
-#[derive(Clone, Copy, Debug, PartialEq, Eq)]
+#[derive(Clone, Copy, PartialEq, Eq)]
 pub struct Denial {
     pub mv: Move,
     pub reply: Option<Move>,

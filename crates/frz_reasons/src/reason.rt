@@ -5,7 +5,7 @@ use frz_game::Wrong;
 use frz_sets::Value;
 
 /// What stands at the end of the way on which a side fails.
-#[derive(Clone, Copy, Debug, PartialEq, Eq)]
+#[derive(Clone, Copy, PartialEq, Eq)]
 pub enum Reason {
     /// A kept code is not the local one.
     Wrong(Wrong),

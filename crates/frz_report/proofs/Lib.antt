@@ -10,5 +10,6 @@ mod Walking
 mod Writing
 pub mod Lemmas
 mod Zugzwangs
+mod Mutual
 mod OpenExits
 mod ReportEnds

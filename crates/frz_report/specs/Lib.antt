@@ -5,4 +5,5 @@ pub mod Lines
 pub mod Reports
 pub mod Walks
 pub mod Zugzwangs
+pub mod Mutual
 pub mod Ending

@@ -19,10 +19,18 @@ pub const MOST_EXITS: u64 = 1 << 62;
 
 /// How many open exits have each class, in the order in which the classes are first met, and how
 /// many there are in all.
-#[derive(Drop)]
 pub struct Census {
     pub classes: IndexMap<Class, u64>,
     pub total: u64,
+}
+
+impl Drop for Census {
+    fn drop(self) {
+        let Census {
+            classes: _,
+            total: _,
+        } = self;
+    }
 }
 
 /// Does the move lead out of the set, to a position of no known value?

@@ -17,6 +17,8 @@ ghost use Rattle.frz_report.specs.Reports.{totals_of};
 ghost use Rattle.frz_report.specs.Zugzwangs.{IsZugzwang};
 ghost use Rattle.frz_report.specs.Census.{census, firsts};
 
+pub mod zugzwangs;
+
 /// The squeezes (mutual zugzwangs) of a report are exactly those of the set, each once, by
 /// increasing number with White to move.
 pub fn squeezes_in_words()

@@ -27,12 +27,22 @@ use std::sync::ledger::Ledger;
 
 /// The lists of a solver that serves both sides of a game, one after the other. They hold, for each
 /// number, its entry for the side that is solved and a note of what it begins with for the other.
-#[derive(Drop)]
 pub struct BothSides {
     tally: Tally,
     notes: Notes,
     lists: Lists,
     preds: Preds,
+}
+
+impl Drop for BothSides {
+    fn drop(self) {
+        let BothSides {
+            tally: _,
+            notes: _,
+            lists: _,
+            preds: _,
+        } = self;
+    }
 }
 
 impl Model for BothSides {

@@ -15,7 +15,7 @@ use frz_board::Colour;
 use frz_graph::Arm;
 
 /// What a number begins with for one side.
-#[derive(Clone, Copy, Debug)]
+#[derive(Clone, Copy)]
 pub struct Note {
     /// How many arms (legal moves that count) the number waits for, if it is open.
     pub count: u16,

@@ -11,10 +11,18 @@ use std::marker::Model;
 
 /// What each number begins with for one side. The run that solves the other side's game writes the
 /// notes, so that this side's game begins without listing the moves again.
-#[derive(Drop)]
 pub struct Notes {
     counts: Vec<u16>,
     codes: Vec<u16>,
+}
+
+impl Drop for Notes {
+    fn drop(self) {
+        let Notes {
+            counts: _,
+            codes: _,
+        } = self;
+    }
 }
 
 impl Model for Notes {

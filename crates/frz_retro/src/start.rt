@@ -13,7 +13,7 @@ use frz_graph::{Arm, Next, exit_code};
 /// What the arms (legal moves) of a number say before any number is settled. A single arm of the
 /// deciding kind settles the number: a win where the side moves, a failure where its opponent does.
 /// The settling kind is the other one: it settles the number where all arms that count are of it.
-#[derive(Clone, Copy, Debug)]
+#[derive(Clone, Copy)]
 pub struct Start {
     /// Whether at least one arm counts.
     pub any: bool,

@@ -10,7 +10,6 @@ use std::alloc::Global;
 use std::marker::Model;
 
 /// What the solver keeps of the numbers: four lists, each with one place for each number.
-#[derive(Drop)]
 pub struct Tally {
     /// The entry of each number: 1 while it is open.
     codes: Vec<u32>,
@@ -22,6 +21,18 @@ pub struct Tally {
     queue: Vec<u32>,
     /// How many numbers stand in the queue.
     tail: usize,
+}
+
+impl Drop for Tally {
+    fn drop(self) {
+        let Tally {
+            codes: _,
+            counts: _,
+            later: _,
+            queue: _,
+            tail: _,
+        } = self;
+    }
 }
 
 impl Model for Tally {

@@ -18,9 +18,14 @@ use std::sync::ledger::Ledger;
 
 /// A solver for games of one size, whose lists have one place for each number. One workshop serves
 /// both sides in turn, and any game of its size.
-#[derive(Drop)]
 pub struct Workshop {
     sides: BothSides,
+}
+
+impl Drop for Workshop {
+    fn drop(self) {
+        let Workshop { sides: _ } = self;
+    }
 }
 
 impl Model for Workshop {

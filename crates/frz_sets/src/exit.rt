@@ -4,7 +4,7 @@ use frz_squares::SquareSet;
 use std::marker::Model;
 
 /// What a condition asks of a position.
-#[derive(Clone, Copy, Debug, PartialEq, Eq)]
+#[derive(Clone, Copy, PartialEq, Eq)]
 pub enum Test {
     /// The side is to move.
     Turn(Colour),
@@ -21,10 +21,18 @@ pub enum Test {
 }
 
 /// A test that must hold, or must not hold where it is negated.
-#[derive(Debug, Drop)]
 pub struct Cond {
     pub negated: bool,
     pub test: Test,
+}
+
+impl Drop for Cond {
+    fn drop(self) {
+        let Cond {
+            negated: _,
+            test: _,
+        } = self;
+    }
 }
 
 impl Model for Cond {
@@ -50,10 +58,15 @@ pub enum Value {
 }
 
 /// An exit line: the value of each position outside the set where all the conditions hold.
-#[derive(Debug, Drop)]
 pub struct Exit {
     pub value: Value,
     pub conds: Vec<Cond>,
+}
+
+impl Drop for Exit {
+    fn drop(self) {
+        let Exit { value: _, conds: _ } = self;
+    }
 }
 
 impl Model for Exit {

@@ -3,7 +3,7 @@ use frz_board::{Colour, Kind};
 use frz_squares::SquareSet;
 
 /// Which moves of its man between its squares a forbid line covers.
-#[derive(Clone, Copy, Debug, PartialEq, Eq)]
+#[derive(Clone, Copy, PartialEq, Eq)]
 pub enum Only {
     Any,
     /// Captures, en passant too.
@@ -13,7 +13,7 @@ pub enum Only {
 
 /// A forbid line: the colour renounces the moves of its men of this kind from a square of `from` to
 /// a square of `to`, all of them or those that `only` names.
-#[derive(Clone, Copy, Debug, PartialEq, Eq)]
+#[derive(Clone, Copy, PartialEq, Eq)]
 pub struct Forbid {
     pub colour: Colour,
     pub kind: Kind,

@@ -4,12 +4,22 @@ use std::marker::Model;
 
 /// A group: from `least` to `most` men of one colour, each in one of the states, which are in order
 /// of kind, then square.
-#[derive(Debug, Drop)]
 pub struct Group {
     pub colour: Colour,
     pub least: u8,
     pub most: u8,
     pub states: Vec<(Kind, Square)>,
+}
+
+impl Drop for Group {
+    fn drop(self) {
+        let Group {
+            colour: _,
+            least: _,
+            most: _,
+            states: _,
+        } = self;
+    }
 }
 
 impl Model for Group {

@@ -5,11 +5,20 @@ use crate::group::Group;
 use std::marker::Model;
 
 /// The groups, forbid lines and exit lines of a rules text, each in the order of the text.
-#[derive(Debug, Drop)]
 pub struct Rules {
     pub groups: Vec<Group>,
     pub forbids: Vec<Forbid>,
     pub exits: Vec<Exit>,
+}
+
+impl Drop for Rules {
+    fn drop(self) {
+        let Rules {
+            groups: _,
+            forbids: _,
+            exits: _,
+        } = self;
+    }
 }
 
 impl Model for Rules {

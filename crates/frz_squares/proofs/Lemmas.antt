@@ -43,3 +43,6 @@ pub use Rattle.frz_squares.proofs.Bits.{
   set_reading,
   one_or_none,
 }
+pub use Rattle.frz_squares.proofs.Steps.{beside, row, around, around_is}
+pub use Rattle.frz_squares.proofs.Next.{none_left, next_is}
+pub use Rattle.frz_squares.proofs.Counts.{sum_by-next, ones_of, ones_in}

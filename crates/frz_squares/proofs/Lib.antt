@@ -3,3 +3,6 @@ pub mod Lemmas
 mod Connectives
 mod AllSquares
 mod Bits
+mod Steps
+mod Next
+mod Counts

@@ -7,7 +7,7 @@ use std::marker::Model;
 
 /// A set of squares in 64 bits, which contracts see as one number: square s is in the set where bit
 /// s is set. Squares are numbered from 0, a1, along the ranks to 63, h8.
-#[derive(Clone, Copy, Debug, PartialEq, Eq)]
+#[derive(Clone, Copy, PartialEq, Eq)]
 pub struct SquareSet(pub u64);
 
 impl Model for SquareSet {

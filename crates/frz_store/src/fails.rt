@@ -19,7 +19,7 @@ pub enum FailOn {
 
 /// A planned failure: the `nth` of the calls that `on` counts, from 1, is to fail. A failing
 /// `append` or `write` still keeps the first `keep` bytes of its piece.
-#[derive(Clone, Copy, Debug, PartialEq, Eq, Drop)]
+#[derive(Clone, Copy, PartialEq, Eq, Drop)]
 pub struct Fail {
     pub on: FailOn,
     pub nth: u64,

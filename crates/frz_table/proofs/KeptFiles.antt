@@ -1,5 +1,5 @@
 -- What a name may hold whose codes were loaded.
-use Rattle.std.proofs.Common.{◌≡◌, [], refl, sym, subst, ℕ, zero, suc, ◌∷◌, lit<, ◌^◌, ◌<◌, ◌≤◌, List, ◌++◌, length, get_or, Option, Some, None, Bool, true, false, Result, Ok, IfSome, arith, cond, ltb}
+use Rattle.std.proofs.Common.{◌≡◌, [], refl, sym, ℕ, zero, suc, ◌∷◌, lit<, ◌^◌, ◌<◌, ◌≤◌, List, ◌++◌, length, get_or, Option, Some, None, Bool, true, false, Result, Ok, IfSome, arith, cond, ltb}
 use Rattle.std.specs.Prelude.{IsSomeAnd}
 use Rattle.std.specs.List.{list_all}
 use Rattle.std.specs.Int.{w32, to_le_bytes}
@@ -104,15 +104,3 @@ may_keep (Some m) name magic text size white black h held l =
     by_held None same f p q = absurd f
     by_held (Some bytes) same f p q =
         record { bytes = bytes; may = same; file = f; white_is = sym p; black_is = sym q }
-
--- the same name, text and size
-pub loaded_as : {files : Option Files} {name held_name text held_text : List ℕ} {size held_size : ℕ}
-    {white black : List ℕ}
-    → held_name ≡ name → held_text ≡ text → held_size ≡ size
-    → AreLoaded files held_name held_text held_size white black
-    → AreLoaded files name text size white black
-loaded_as {files} {name} {held_name} {text} {held_text} {size} {held_size} {white} {black} named
-    texts sizes h =
-    subst (λ (n : ℕ). AreLoaded files name text n white black) sizes
-    (subst (λ (t : List ℕ). AreLoaded files name t held_size white black) texts
-    (subst (λ (n : List ℕ). AreLoaded files n held_text held_size white black) named h))

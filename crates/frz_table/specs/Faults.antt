@@ -1,6 +1,7 @@
 -- The faults of a table that come from the store, from memory or from the reader of rules.
 use Rattle.std.specs.Prelude.{◌≡◌, ℕ, ◌≤◌, Result, OnOk, IfErr, ⊤}
 use Rattle.std.specs.Result.{IsErrOf}
+use Rattle.frz_asks.specs.Runs.{Stop, refused, stopped}
 use Rattle.frz_rules.specs.declared.fault.RulesError.{RulesError}
 use Rattle.frz_rules.specs.declared.fault.RulesError.TheVariants as reading
 use Rattle.frz_store.specs.Outside.{Rose}
@@ -22,6 +23,12 @@ abbrev pub IsOutside : TableFault → Type 0
 IsOutside Failed = ⊤
 IsOutside NoMemory = ⊤
 IsOutside fault = ⊥
+
+-- what a fault says of a run: the file is refused, or the run was halted
+abbrev pub stop_of : TableFault → Stop TableFault
+stop_of Failed = stopped store.Failed
+stop_of NoMemory = stopped store.NoMemory
+stop_of fault = refused fault
 
 -- P holds if the fault is of the file itself, not of the store or of memory
 abbrev pub UnlessOutside : TableFault → Type 0 → Type 0

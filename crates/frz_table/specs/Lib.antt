@@ -4,5 +4,7 @@ pub mod Tables
 pub mod Opening
 pub mod Steps
 pub mod Faults
+pub mod Asking
+pub mod Views
 pub mod Possible
 pub mod Memory

@@ -8,7 +8,6 @@ use Rattle.frz_table.specs.declared.fault.TableFault.{TableFault}
 use Rattle.frz_table.specs.Layout.{codes_at, magic_of}
 use Rattle.frz_table.specs.Numbers.{AreBytes}
 use Rattle.frz_table.specs.Opening.{Format, Contents, Refuses, opened, opening_calls, kept_text}
-use Rattle.frz_table.specs.Steps.{IsFormatOf, HasText, SizeRefused}
 use Rattle.frz_table.specs.Tables.{Table, IsTableFile, table_size}
 
 -- what the name may hold: what the store tells that it holds, or, if the store does not tell, any
@@ -55,21 +54,3 @@ pub record MayKeepCodes (files : Option Files) (name magic text : List ℕ)
 abbrev pub MayKeep : Option Files → Table → List ℕ → List ℕ → Type 0
 MayKeep files table white black =
     MayKeepCodes files table.name (magic_of table.kind) table.text (table_size table) white black
-
--- there is a file, or none, that each format of this magic refuses with this fault, and no more
--- bytes and calls were asked of the store than opening it takes
-pub record SomeRefused (magic : List ℕ) (old new : StoreTold) (fault : TableFault) : Type 0 where
-  pub held : Option (List ℕ)
-  pub bytes : IfSome held AreBytes
-  pub refuses : (format : Format) → IsFormatOf magic format → Refuses (opened format held) fault
-  pub asked : AskedFor held old.asked new.asked
-  pub calls : (format : Format) → IsFormatOf magic format
-      → new.calls ≤ old.calls + opening_calls format held
-
--- there are bytes with this text that the last two steps refuse with this fault
-pub record SomeSizeRefused (magic text : List ℕ) (count size : ℕ)
-    (fault : TableFault) : Type 0 where
-  pub held : List ℕ
-  pub bytes : AreBytes held
-  pub has_text : HasText magic text count held
-  pub refuses : SizeRefused text size fault held

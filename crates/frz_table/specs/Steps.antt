@@ -1,32 +1,17 @@
 -- What is known of a file after each step of opening it, and of its codes once they are loaded.
 use Rattle.std.specs.Prelude.{ℕ, ◌+◌, ◌≡◌, ◌≤◌, List, length, take, Option, Err, IfSome}
 use Rattle.frz_board.specs.declared.man.Colour.TheVariants.{White, Black}
-use Rattle.frz_sets.specs.Views.{RuleLines}
 use Rattle.frz_rules.specs.Text.{rules_of}
 use Rattle.frz_rules.specs.declared.fault.RulesFault.{RulesFault}
 use Rattle.frz_store.specs.Files.{Files}
-use Rattle.frz_table.specs.declared.fault.TableFault.{TableFault}
 use Rattle.frz_table.specs.Layout.{codes_at, due_length}
 use Rattle.frz_table.specs.Numbers.{AreNumbers}
-use Rattle.frz_table.specs.Opening.{Format, Refuses, opened, opening_calls, kept_length, kept_size, kept_text, of_size}
+use Rattle.frz_table.specs.Opening.{Format, kept_length, kept_size}
 
--- a format with this magic that refuses what the reader of rules refuses
-pub record IsFormatOf (magic : List ℕ) (format : Format) : Type 0 where
-  pub magic_is : format.magic ≡ magic
+-- the format refuses what the reader of rules refuses
+pub record Refines (format : Format) : Type 0 where
   pub refuses : (text : List ℕ) (fault : RulesFault) → rules_of text ≡ Err fault
       → format.read text ≡ Err fault
-
--- if the store tells, each format of this magic refuses what the name holds with this fault
-abbrev pub AllRefuse : List ℕ → Option Files → List ℕ → TableFault → Type 0
-AllRefuse magic files name fault =
-    IfSome files (λ m. (format : Format) → IsFormatOf magic format
-    → Refuses (opened format (m name)) fault)
-
--- if the store tells, no more calls were made than each format of this magic takes to open the name
-abbrev pub AllCall : List ℕ → Option Files → List ℕ → (before now : ℕ) → Type 0
-AllCall magic files name before now =
-    IfSome files (λ m. (format : Format) → IsFormatOf magic format
-    → now ≤ before + opening_calls format (m name))
 
 -- there are `count` bytes, which begin with the magic, and `text_count` of them are the text
 pub record HasHead (magic : List ℕ) (count text_count : ℕ) (bytes : List ℕ) : Type 0 where
@@ -36,20 +21,10 @@ pub record HasHead (magic : List ℕ) (count text_count : ℕ) (bytes : List ℕ
   pub kept : kept_length bytes ≡ text_count
   pub short : text_count ≤ 65536
 
--- the head is right, and the text is this one
-pub record HasText (magic text : List ℕ) (count : ℕ) (bytes : List ℕ) : Type 0 where
-  pub head : HasHead magic count (length text) bytes
-  pub text_is : kept_text bytes ≡ text
-
 -- the size in the bytes is this one, and their length is the one that is due by it
 pub record HasSize (text : List ℕ) (size : ℕ) (bytes : List ℕ) : Type 0 where
   pub sized : kept_size bytes ≡ size
   pub due : length bytes ≡ due_length text size
-
--- the last two steps refuse the bytes with this fault
-abbrev pub SizeRefused : List ℕ → ℕ → TableFault → List ℕ → Type 0
-SizeRefused text size fault bytes =
-    (rules : RuleLines) → Refuses (of_size bytes (record { text = text; rules = rules }) size) fault
 
 -- the lists are White's and Black's codes in the file of this name, text and size, if the store
 -- tells

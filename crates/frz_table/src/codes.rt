@@ -1,10 +1,11 @@
 //! The codes of a table file: where those of a side begin, and how those of both sides are read.
-ghost use Rattle.std.specs.Prelude.{◌≡◌, ◌+◌, ◌*◌, ◌≤◌, length, IfOk, IfErr};
-ghost use Rattle.frz_store.specs.Told.{store_of, StoreQuiet};
-ghost use Rattle.frz_table.specs.Faults.{IsOutside, TableCauses};
-ghost use Rattle.frz_table.specs.Layout.{due_length, pieces_of, place_of};
-ghost use Rattle.frz_table.specs.Steps.{AreLoaded};
-ghost use Rattle.frz_table.specs.Tables.{Holds};
+ghost use Rattle.std.specs.Prelude.{◌≡◌, IfOk};
+ghost use Rattle.frz_asks.specs.Runs.{Run, Sized, end_of};
+ghost use Rattle.frz_store.specs.Told.{store_of};
+ghost use Rattle.frz_table.specs.Asking.{loading};
+ghost use Rattle.frz_table.specs.Faults.{stop_of};
+ghost use Rattle.frz_table.specs.Layout.{due_length, place_of};
+ghost use Rattle.frz_table.specs.Numbers.{AreNumbers};
 
 use crate::TableFault;
 use crate::laws::numbers_fit;
@@ -33,16 +34,12 @@ pub fn load_codes<S: Store>(
     text: &[u8],
     size: u32,
 ) -> Result<(Vec<u32>, Vec<u32>), TableFault>
-    requires { Holds (S.files store.old) name.now
-        (λ bytes. length bytes ≡ due_length text.now size) }
-    ensures loaded { IfOk result (λ lists.
-        AreLoaded (S.files store.old) name.now text.now size lists.0.items lists.1.items) }
-    ensures quiet { StoreQuiet (store_of S.Store store.old) (store_of S.Store store.new) }
-    ensures asked { S.asked store.new ≤ S.asked store.old + 8 * size }
-    ensures calls { S.calls store.new ≤ S.calls store.old + 2 * pieces_of size }
-    ensures outside { IfErr result IsOutside }
-    ensures causes { TableCauses (S.faults store.old) (S.faults store.new)
-        (S.wants store.old) (S.wants store.new) result }
+    requires { Sized (S.files store.old) name.now (due_length text.now size) }
+    ensures run { Run (loading name.now text.now size)
+        (end_of stop_of (λ lists. (lists.0.items, lists.1.items)) result)
+        (store_of S.Store store.old) (store_of S.Store store.new) }
+    ensures white_fit { IfOk result (λ lists. AreNumbers lists.0.items) }
+    ensures black_fit { IfOk result (λ lists. AreNumbers lists.1.items) }
 {
     let white_place = codes_place(Colour::White, text, size);
     let white = load_numbers(alloc, store, name, white_place, size)?;

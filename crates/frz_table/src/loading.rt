@@ -1,9 +1,11 @@
 //! Reading the codes of an open table: one code, or all of them.
 ghost use Rattle.std.specs.Prelude.{◌≡◌, ◌+◌, ◌*◌, ◌≤◌, ◌<◌, length, slice_get, Some, IfOk, IfErr, IfSome};
+ghost use Rattle.frz_asks.specs.Runs.{Run, end_by, end_of};
 ghost use Rattle.frz_board.specs.declared.man.Colour.TheVariants.{White, Black};
 ghost use Rattle.frz_store.specs.Outside.{IsNext, StoreCauses};
 ghost use Rattle.frz_store.specs.Told.{store_of, StoreQuiet};
-ghost use Rattle.frz_table.specs.Faults.{IsOutside, TableCauses};
+ghost use Rattle.frz_table.specs.Asking.{coding, loading};
+ghost use Rattle.frz_table.specs.Faults.{IsOutside, TableCauses, stop_of};
 ghost use Rattle.frz_table.specs.Layout.{codes_at, pieces_of};
 ghost use Rattle.frz_table.specs.Possible.{MayKeep};
 ghost use Rattle.frz_table.specs.Tables.{Carries, table_size};
@@ -20,6 +22,9 @@ impl TableFile {
     pub fn entry<S: Store>(&self, store: &mut S, side: Colour, i: u32) -> Result<u32, StoreFault>
         requires number { i < table_size self.now }
         requires carried { Carries (S.files store.old) self.now }
+        ensures run { Run (coding self.now.name self.now.text (table_size self.now) side i)
+            (end_by (λ code. code) result)
+            (store_of S.Store store.old) (store_of S.Store store.new) }
         ensures code { IfOk result
             (λ code. IfSome (S.files store.old) (λ m. IfSome (m self.now.name)
             (λ bytes. slice_get (codes_at side self.now.text (table_size self.now) bytes) i
@@ -41,6 +46,9 @@ impl TableFile {
         store: &mut S,
     ) -> Result<(Vec<u32>, Vec<u32>), TableFault>
         requires { Carries (S.files store.old) self.now }
+        ensures run { Run (loading self.now.name self.now.text (table_size self.now))
+            (end_of stop_of (λ lists. (lists.0.items, lists.1.items)) result)
+            (store_of S.Store store.old) (store_of S.Store store.new) }
         ensures white { IfOk result
             (λ lists. IfSome (S.files store.old) (λ m. IfSome (m self.now.name)
             (λ bytes. lists.0.items ≡ codes_at White self.now.text (table_size self.now) bytes))) }

@@ -1,25 +1,26 @@
 //! Numbers of 32 bits, read from a place of a file or from bytes, and written to bytes.
-ghost use Rattle.std.specs.Prelude.{◌≡◌, ℕ, ◌+◌, ◌-◌, ◌*◌, ◌≤◌, ◌^◌, ◌++◌, min, length, drop, vec_len, vec_capacity, IfOk, IfSome};
+ghost use Rattle.std.specs.Prelude.{◌≡◌, ℕ, ◌+◌, ◌*◌, ◌≤◌, ◌++◌, length, vec_len, vec_capacity, IfSome};
+ghost use Rattle.frz_asks.specs.Runs.{Run, end_by};
 ghost use Rattle.frz_store.specs.Files.{Covers};
 ghost use Rattle.frz_store.specs.Outside.{IsNext, StoreCauses};
-ghost use Rattle.frz_store.specs.Told.{store_of, StoreQuiet};
-ghost use Rattle.frz_table.specs.Numbers.{number_at, numbers, number_bytes};
+ghost use Rattle.frz_store.specs.Told.{store_of};
+ghost use Rattle.frz_table.specs.Asking.{number_of};
+ghost use Rattle.frz_table.specs.Numbers.{numbers, number_bytes};
 
+use frz_asks::read_at;
 use frz_store::{Store, StoreFault};
 
 /// Reads the number in the four bytes of the file from byte `at` on, the lowest byte first.
 pub(crate) fn read_number<S: Store>(store: &mut S, name: &str, at: u64) -> Result<u32, StoreFault>
     requires { IfSome (S.files store.old) (Covers at 4 name.now) }
-    ensures number { IfOk result (λ n. IfSome (S.files store.old) (λ m. IfSome (m name.now)
-        (λ bytes. n ≡ number_at at bytes))) }
-    ensures quiet { StoreQuiet (store_of S.Store store.old) (store_of S.Store store.new) }
-    ensures asked { S.asked store.new ≡ min (S.asked store.old + 4) (2 ^ 64 - 1) }
+    ensures run { Run (number_of name.now at) (end_by (λ n. n) result)
+        (store_of S.Store store.old) (store_of S.Store store.new) }
     ensures calls { IsNext (S.calls store.old) (S.calls store.new) }
     ensures causes { StoreCauses (S.faults store.old) (S.faults store.new)
         (S.wants store.old) (S.wants store.new) result }
 {
     let mut field = [0; 4];
-    store.read(name, at, &mut field)?;
+    read_at(store, name, at, &mut field)?;
     Ok(u32::from_le_bytes(field))
 }
 

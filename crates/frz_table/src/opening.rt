@@ -1,11 +1,13 @@
 //! Opening a table file, step by step.
 ghost use Rattle.std.specs.Prelude.{◌≡◌, ◌+◌, ◌≤◌, length, IfOk, IfErr, IfSome, Ok};
 ghost use Rattle.std.specs.Result.{IsErrOf};
+ghost use Rattle.frz_asks.specs.Runs.{Run, end_of};
 ghost use Rattle.frz_store.specs.Files.{bytes_at};
 ghost use Rattle.frz_store.specs.Told.{store_of, StoreQuiet};
 ghost use Rattle.frz_table.specs.declared.kind.FileKind.TheVariants.{Plain};
 ghost use Rattle.frz_table.specs.declared.fault.TableFault.TheVariants.{NoMemory};
-ghost use Rattle.frz_table.specs.Faults.{TableCauses};
+ghost use Rattle.frz_table.specs.Asking.{opening};
+ghost use Rattle.frz_table.specs.Faults.{TableCauses, stop_of};
 ghost use Rattle.frz_table.specs.Layout.{magic_of};
 ghost use Rattle.frz_table.specs.Memory.{MemoryWanted};
 ghost use Rattle.frz_table.specs.Opening.{Refuses, contents_of, opened, kept_text, table_format};
@@ -19,6 +21,31 @@ use frz_index::Set;
 use frz_store::Store;
 use std::alloc::Global;
 
+/// The steps of opening a table file of this kind.
+fn open_steps<S: Store>(
+    alloc: Global,
+    store: &mut S,
+    name: &str,
+    kind: FileKind,
+) -> Result<TableFile, TableFault>
+    ensures run { Run (opening (table_format kind) name.now) (end_of stop_of contents_of result)
+        (store_of S.Store store.old) (store_of S.Store store.new) }
+    ensures name { IfOk result (λ t. t.name ≡ name.now) }
+    ensures kind { IfOk result (λ t. t.kind ≡ kind) }
+{
+    let opened = open_text(alloc, store, name, kind.magic())?;
+    let set = Set::new(alloc, &opened.rules)?;
+    check_size(store, name, &opened, set.size())?;
+    let name = String::from_str(alloc, name)?;
+    Ok(TableFile {
+        name,
+        kind,
+        text: opened.text,
+        rules: opened.rules,
+        set,
+    })
+}
+
 /// Opens a table file of this kind. The file is not changed. An error of the file is the first
 /// thing that is wrong with it.
 pub fn open_kind<S: Store>(
@@ -27,6 +54,8 @@ pub fn open_kind<S: Store>(
     name: &str,
     kind: FileKind,
 ) -> Result<TableFile, TableFault>
+    ensures run { Run (opening (table_format kind) name.now) (end_of stop_of contents_of result)
+        (store_of S.Store store.old) (store_of S.Store store.new) }
     ensures opened { IfOk result (λ t. IfSome (S.files store.old)
         (λ m. opened (table_format kind) (m name.now) ≡ Ok (contents_of t))) }
     ensures refused { IfErr result (λ f. IfSome (S.files store.old)
@@ -53,17 +82,7 @@ pub fn open_kind<S: Store>(
         → MemoryWanted (magic_of kind) (S.files store.old) name.now
         (S.wants store.old) (S.wants store.new) }
 {
-    let opened = open_text(alloc, store, name, kind.magic())?;
-    let set = Set::new(alloc, &opened.rules)?;
-    check_size(store, name, kind.magic(), &opened, set.size())?;
-    let name = String::from_str(alloc, name)?;
-    Ok(TableFile {
-        name,
-        kind,
-        text: opened.text,
-        rules: opened.rules,
-        set,
-    })
+    open_steps(alloc, store, name, kind)
 }
 
 /// Opens a plain table file, as `open_kind` does.
@@ -72,6 +91,8 @@ pub fn open_table<S: Store>(
     store: &mut S,
     name: &str,
 ) -> Result<TableFile, TableFault>
+    ensures run { Run (opening (table_format Plain) name.now) (end_of stop_of contents_of result)
+        (store_of S.Store store.old) (store_of S.Store store.new) }
     ensures opened { IfOk result (λ t. IfSome (S.files store.old)
         (λ m. opened (table_format Plain) (m name.now) ≡ Ok (contents_of t))) }
     ensures refused { IfErr result (λ f. IfSome (S.files store.old)

@@ -1,14 +1,11 @@
 //! The size that a table file keeps, and the length that is due by it.
-ghost use Rattle.std.specs.Prelude.{◌≡◌, ◌+◌, ◌*◌, ◌≤◌, length, IfErr, IfSome, OnOk};
-ghost use Rattle.std.specs.Result.{IsErrOf};
-ghost use Rattle.frz_store.specs.Outside.{Rose};
-ghost use Rattle.frz_store.specs.Told.{store_of, StoreQuiet};
-ghost use Rattle.frz_table.specs.declared.fault.TableFault.TheVariants.{NoMemory};
-ghost use Rattle.frz_table.specs.Faults.{TableCauses};
-ghost use Rattle.frz_table.specs.Numbers.{AreBytes};
-ghost use Rattle.frz_table.specs.Possible.{SomeSizeRefused};
-ghost use Rattle.frz_table.specs.Steps.{HasSize, HasText, SizeRefused};
-ghost use Rattle.frz_table.specs.Tables.{Holds};
+ghost use Rattle.std.specs.Prelude.{◌≡◌, ◌+◌, ◌≤◌, length, OnOk};
+ghost use Rattle.frz_asks.specs.Runs.{Run, Sized, end_of};
+ghost use Rattle.frz_store.specs.Told.{store_of};
+ghost use Rattle.frz_table.specs.Asking.{sizing};
+ghost use Rattle.frz_table.specs.Faults.{stop_of};
+ghost use Rattle.frz_table.specs.Layout.{due_length};
+ghost use Rattle.frz_table.specs.Views.{opened_of};
 
 use crate::TableFault;
 use crate::numbers::read_number;
@@ -20,29 +17,16 @@ use frz_store::Store;
 pub fn check_size<S: Store>(
     store: &mut S,
     name: &str,
-    magic: &[u8; 8],
     opened: &Text,
     size: u32,
 ) -> Result<(), TableFault>
-    requires text { Holds (S.files store.old) name.now
-        (HasText magic.now opened.now.text.items opened.now.file) }
+    requires sized { Sized (S.files store.old) name.now opened.now.file }
     requires short { length opened.now.text.items ≤ 65536 }
-    requires are_bytes { AreBytes opened.now.text.items }
     requires fits { 16 + length opened.now.text.items ≤ opened.now.file }
-    ensures sized { OnOk result
-        (Holds (S.files store.old) name.now (HasSize opened.now.text.items size)) }
-    ensures refused { IfErr result (λ f. Holds (S.files store.old) name.now
-        (SizeRefused opened.now.text.items size f)) }
-    ensures some_refused { IfErr result
-        (SomeSizeRefused magic.now opened.now.text.items opened.now.file size) }
-    ensures quiet { StoreQuiet (store_of S.Store store.old) (store_of S.Store store.new) }
-    ensures asked { S.asked store.new ≤ S.asked store.old + 4 }
-    ensures calls { S.calls store.new ≤ S.calls store.old + 1 }
-    ensures causes { TableCauses (S.faults store.old) (S.faults store.new)
-        (S.wants store.old) (S.wants store.new) result }
-    ensures memory { IsErrOf result NoMemory → Rose (S.wants store.old) (S.wants store.new) }
+    ensures run { Run (sizing name.now (opened_of opened.now) size) (end_of stop_of (λ t. t) result)
+        (store_of S.Store store.old) (store_of S.Store store.new) }
+    ensures due { OnOk result (opened.now.file ≡ due_length opened.now.text.items size) }
 {
-    let _ = magic;
     let text = opened.text.len() as u64;
     let kept = read_number(store, name, 12 + text)?;
     if kept != size {

@@ -9,7 +9,6 @@ use frz_sets::Rules;
 use std::marker::Model;
 
 /// A table file that was opened.
-#[derive(Drop)]
 pub struct TableFile {
     pub(crate) name: String,
     pub(crate) kind: FileKind,
@@ -33,6 +32,18 @@ impl Model for TableFile {
     } };
 
     ghost invariant = { λ t. IsRead t.text.items t.rules × (t.set ≡ t.rules.groups) };
+}
+
+impl Drop for TableFile {
+    fn drop(self) {
+        let TableFile {
+            name: _,
+            kind: _,
+            text: _,
+            rules: _,
+            set: _,
+        } = self;
+    }
 }
 
 impl TableFile {

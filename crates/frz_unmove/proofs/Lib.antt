@@ -12,3 +12,4 @@ pub mod StepsBack
 pub mod StepsValid
 pub mod StepsSafe
 pub mod StepsTold
+mod QuietOrigins

@@ -1,5 +1,5 @@
 -- A step taken back: the position before it, and when the step is legal there.
-use Rattle.std.proofs.Common.{◌≡◌, ℕ, ◌<◌, Bool, true, false, cond, ◌&&◌, ◌||◌, Option, None, Some, List, slice_index, slice_set, length-set, refl, ap, sym, ◌∙◌, inl, inr}
+use Rattle.std.proofs.Common.{◌≡◌, ℕ, ◌<◌, Bool, true, false, cond, ◌&&◌, ◌||◌, Option, None, Some, List, slice_index, slice_set, length-set, refl, ap, sym, subst, ◌∙◌, ◌↔◌, inl, inr}
 use Rattle.std.specs.Prelude.{◌==◌, is_some, if◌then◌else◌, not}
 use Rattle.std.proofs.lemmas.Bool.{cases_eq, eq-eqb, eqb-true}
 use Rattle.std.proofs.lemmas.Grind.{same_number_lists}
@@ -17,8 +17,10 @@ use Rattle.frz_board.specs.Squares.{files_apart, is_forward}
 use Rattle.frz_fide.specs.Legal.{after, can_go, goes, is_legal, man_goes, promotes, beside_on_file, is_target}
 use Rattle.frz_fide.specs.Valid.{IsValid}
 use Rattle.frz_index.proofs.Lemmas.{after_quiet, at_from, at_rest, at_to}
+use Rattle.frz_index.specs.Members.{HasNumber}
 use Rattle.frz_index.specs.Stepping.{IsQuiet, IsStep, stepped}
 use Rattle.frz_sets.specs.Sets.{pawn}
+use Rattle.frz_sets.specs.Views.{GroupLine}
 use Rattle.frz_unmove.specs.Earlier.{before, mover_cell, name}
 use Rattle.frz_unmove.specs.Quiet.{IsQuietBack}
 
@@ -170,3 +172,18 @@ module _ (q : Board) (m : Step) (taken : ℕ) (target : Option ℕ) (man : Man) 
       ∙ ap (λ o. goes p man.colour man.kind m.from m.to && promotes man.colour man.kind m.to o)
       h.promo
       ∙ piece_goes p man.colour man.kind m.from m.to h.piece
+
+  -- what is told of the step's position is told of the position before a move of its name
+  pub told_before : (gs : List GroupLine) (o : Option ℕ) (i : ℕ) →
+      ((o ≡ Some i)
+      ↔ (HasNumber gs i p × (reaches p man.colour man.kind m.from m.to ≡ true))) →
+      (o ≡ Some i)
+      ↔ (HasNumber gs i (before q (name m taken target))
+      × (is_legal (before q (name m taken target)) m ≡ true)
+      × (after (before q (name m taken target)) m ≡ q))
+  told_before gs o i told =
+      subst (λ (b : Board). (o ≡ Some i)
+      ↔ (HasNumber gs i b × (is_legal b m ≡ true) × (after b m ≡ q))) (sym before_is) (
+        λ e. ((told.0 e).0, legal_where ∙ (told.0 e).1, leads_on),
+        λ k. told.1 (k.0, sym legal_where ∙ k.1),
+      )

@@ -1,6 +1,6 @@
 -- Before a step, the king of the side that was not to move is attacked by the man that stepped
 -- alone, where no other man attacks it.
-use Rattle.std.proofs.Common.{◌≡◌, ◌≢◌, ℕ, ◌<◌, Bool, true, false, cond, ◌&&◌, ◌||◌, Option, None, Some, length, slice_index, slice_set, length-set, get_or-set_other, get_or-set_same, refl, ap, sym, ◌∙◌, arith, inl, inr}
+use Rattle.std.proofs.Common.{◌≡◌, ◌≢◌, ℕ, ◌<◌, Bool, true, false, cond, ◌&&◌, ◌||◌, Option, Some, length, slice_index, slice_set, length-set, get_or-set_other, get_or-set_same, refl, ap, sym, ◌∙◌, arith, inl, inr}
 use Rattle.std.specs.Prelude.{◌==◌, not}
 use Rattle.std.proofs.lemmas.Bool.{and_from, and_parts, cases_eq, eq-eqb, eqb-true}
 use Rattle.std.proofs.lemmas.Bool.Decides.{nat_tests}
@@ -16,7 +16,7 @@ use Rattle.frz_board.specs.Boards.{Board, has, holds, is_empty, man_on}
 use Rattle.frz_board.specs.Lines.{is_between, is_bishop_line, is_rook_line}
 use Rattle.frz_board.specs.Men.{cell_of_man, is_man_of, man_of_cell, other_of, same_colour}
 use Rattle.frz_board.specs.Shapes.{count_of, has_kings}
-use Rattle.frz_squares.proofs.Lemmas.{all_squares, all_squares-same, any_square, each_square, implied, implies, some_square}
+use Rattle.frz_squares.proofs.Lemmas.{all_squares-same, any_square, some_square}
 use Rattle.frz_fide.proofs.Lemmas.{same_tests}
 use Rattle.frz_fide.specs.Valid.{IsValid}
 use Rattle.frz_index.proofs.Lemmas.{at_to, same_man}

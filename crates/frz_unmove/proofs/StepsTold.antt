@@ -1,6 +1,6 @@
 -- What the board without the man that stepped tells of the position before the step.
 use Rattle.std.proofs.Common.{◌≡◌, ℕ, ◌<◌, true, false, Option, None, Some, List, ap, sym, subst, ◌∙◌, ◌↔◌}
-use Rattle.std.proofs.lemmas.Option.{none-some, same_Some}
+use Rattle.std.proofs.lemmas.Option.{same_Some}
 use Rattle.frz_board.proofs.Lemmas.{other_other}
 use Rattle.frz_board.specs.declared.man.Man.{Man}
 use Rattle.frz_board.specs.Attacks.{is_in_check, reaches}
@@ -57,20 +57,14 @@ module _ (q : Board) (m : Step) (taken : ℕ) (target : Option ℕ) (man : Man) 
       (o ≡ Some i)
       ↔ (HasNumber gs i earlier × (reaches earlier man.colour man.kind m.from m.to ≡ true))
 
-  pub not_reached : (gs : List GroupLine) →
-      reaches r.bare man.colour man.kind m.from m.to ≡ false → (i : ℕ) → Tells gs None i
-  not_reached gs e i = (
-    λ n. absurd (none-some i n),
-    λ k. let same = sym (reach_is m.to) ∙ e in let on = k.1 in absurd cc,
-  )
-
-  pub in_check : (gs : List GroupLine) →
-      reaches r.bare man.colour man.kind m.from r.king ≡ true → (i : ℕ) → Tells gs None i
-  in_check gs e i = (
-    λ n. absurd (none-some i n),
-    λ k. let safe = k.0.member.valid.safe in
-        let check = ap (is_in_check earlier) (other_other q.turn) ∙ sym check_is ∙ e in
-        absurd cc,
+  -- the step was taken from a square from which it may have come
+  pub told_origin : (gs : List GroupLine) (i : ℕ) → HasNumber gs i earlier →
+      reaches earlier man.colour man.kind m.from m.to ≡ true →
+      (reaches r.bare man.colour man.kind m.from m.to ≡ true)
+      × (reaches r.bare man.colour man.kind m.from r.king ≡ false)
+  told_origin gs i k e = (
+    reach_is m.to ∙ e,
+    check_is ∙ sym (ap (is_in_check earlier) (other_other q.turn)) ∙ k.member.valid.safe,
   )
 
   pub numbered : (gs : List GroupLine) (n : ℕ) →

@@ -1,7 +1,7 @@
 -- A move taken back that took nothing and is no pawn's.
-use Rattle.std.specs.Prelude.{ℕ, ◌≡◌, ◌<◌, true, false, None, Some, slice_set}
+use Rattle.std.specs.Prelude.{ℕ, ◌≡◌, ◌<◌, ◌&&◌, Bool, true, false, not, None, Some, slice_set}
 use Rattle.frz_board.specs.declared.man.Kind.TheVariants.{King}
-use Rattle.frz_board.specs.Attacks.{is_in_check}
+use Rattle.frz_board.specs.Attacks.{is_in_check, reaches}
 use Rattle.frz_unmove.specs.declared.quiet.Ready.{Ready}
 use Rattle.frz_board.specs.declared.man.Man.{Man}
 use Rattle.frz_board.specs.Boards.{Board, has, holds, is_empty, man_on}
@@ -18,10 +18,24 @@ pub record IsQuietBack (q : Board) (m : Step) (taken : ℕ) (man : Man) : Type 0
   pub man_is : man_on q m.to ≡ Some man
   pub piece : is_pawn man.kind ≡ false
 
--- the board without the man on the square, where the king of the side to move is not attacked, and
--- that king's square
+-- this man has moved to the square, no pawn, and there is no target now
+pub record IsPieceAt (q : Board) (to : ℕ) (man : Man) : Type 0 where
+  pub no_later : q.ep ≡ None
+  pub own : holds q (other_of q.turn) to ≡ true
+  pub man_is : man_on q to ≡ Some man
+  pub piece : is_pawn man.kind ≡ false
+
+-- the man that has moved to the square, the board without him, where the king of the side to move
+-- is not attacked, and that king's square
 pub record IsReady (q : Board) (to : ℕ) (ready : Ready) : Type 0 where
+  pub there : IsPieceAt q to ready.man
   pub bare_is : ready.bare ≡ record q { cells = slice_set q.cells to 0 }
   pub safe : is_in_check ready.bare q.turn ≡ false
   pub on_board : ready.king < 64
   pub king_is : has q q.turn King ready.king ≡ true
+
+-- from this square the man has an open way to the other, and none to the king
+abbrev pub is_quiet_origin : Ready → ℕ → ℕ → Bool
+is_quiet_origin ready to a =
+    reaches ready.bare ready.man.colour ready.man.kind a to
+    && not (reaches ready.bare ready.man.colour ready.man.kind a ready.king)

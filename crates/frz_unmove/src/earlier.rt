@@ -1,13 +1,12 @@
 //! The position before a move, and its number if the set has it and the move leads from it.
-ghost use Rattle.std.specs.Prelude.{◌≡◌, ◌≤◌, ◌&&◌, ◌↔◌, IfSome, IsTrue, Some, true, ℕ};
+ghost use Rattle.std.specs.Prelude.{◌≡◌, ◌≤◌, ◌&&◌, ◌↔◌, IsTrue, Some, true, ℕ};
 ghost use Rattle.frz_board.specs.Moving.{IsStep};
 ghost use Rattle.frz_fide.specs.Legal.{after, is_legal, is_target};
 ghost use Rattle.frz_fide.specs.Valid.{IsValid};
 ghost use Rattle.frz_index.specs.Members.{HasNumber};
-ghost use Rattle.frz_unmove.specs.Quiet.{IsReady};
 ghost use Rattle.frz_unmove.specs.Earlier.{before, mover_cell as cell_of_mover, name, was_en_passant};
 
-use crate::quiet::{Ready, number_before_step, stepped_man};
+use crate::quiet::{number_by_board, stepped_man};
 use frz_bits::Bitboards;
 use frz_board::{Move, Square};
 use frz_fide::{beside, leads, valid_boards};
@@ -103,12 +102,10 @@ pub(crate) fn number_before(
     m: Move,
     taken: u8,
     target: &Option<Square>,
-    ready: &Option<Ready>,
 ) -> Option<u32>
     requires number { HasNumber set.now at q.now }
     requires valid { IsValid q.now }
     requires taken { taken ≤ 12 }
-    requires ready { IfSome ready.now (λ r. IsReady q.now m.to r) }
     ensures step { IsStep m }
     ensures number { let p = before q.now (name m taken target.now) in
         (i : ℕ) → (result ≡ Some i)
@@ -117,7 +114,7 @@ pub(crate) fn number_before(
     let _from = m.from.number();
     let _to = m.to.number();
     match stepped_man(q, m, taken) {
-        Some(man) => number_before_step(set, at, q, man, m, taken, target, ready),
+        Some(man) => number_by_board(set, at, q, man, m, taken, target),
         None => number_of_earlier(set, at, q, m, taken, target),
     }
 }

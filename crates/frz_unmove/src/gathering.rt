@@ -1,21 +1,21 @@
 //! The search for the legal moves that lead to a position, by move, man taken and earlier target.
-ghost use Rattle.std.specs.Prelude.{ℕ, ◌≡◌, ◌≤◌, ◌<◌, ◌+◌, ◌&&◌, IfSome, MatchOption, None, Some, false, true, length};
+ghost use Rattle.std.specs.Prelude.{ℕ, ◌≡◌, ◌≤◌, ◌<◌, ◌+◌, ◌&&◌, MatchOption, None, Some, false, true, length};
 ghost use Rattle.frz_board.specs.Boards.{holds, man_on};
 ghost use Rattle.frz_board.specs.Men.{cell_of_man, is_man_of, man_of_cell, other_of};
 ghost use Rattle.frz_board.specs.Moving.{is_promotion};
 ghost use Rattle.frz_fide.specs.Legal.{is_last};
 ghost use Rattle.frz_fide.specs.Valid.{IsValid};
-ghost use Rattle.frz_index.specs.Members.{HasNumber};
+ghost use Rattle.frz_index.specs.Members.{HasNumber, Member};
 ghost use Rattle.frz_index.specs.Room.{has_room};
 ghost use Rattle.frz_unmove.specs.Earlier.{mover_cell as cell_of_mover};
-ghost use Rattle.frz_unmove.specs.Quiet.{IsReady};
+ghost use Rattle.frz_unmove.specs.Quiet.{IsQuietBack, IsReady, is_quiet_origin};
 ghost use Rattle.frz_unmove.specs.Adding.{Adds};
 ghost use Rattle.frz_unmove.specs.Gathering.{Comes, ComesAs, ComesAt, ComesFrom, ComesTaking, ComesTo, HasOrigins, IsTargetWord, first_taken as first_taken_of};
 
 use crate::earlier::number_before;
 use crate::origins::origins;
 use crate::preds::{Pred, Preds};
-use crate::quiet::{Ready, ready_for};
+use crate::quiet::{Ready, number_by_lines, quiet_origins, ready_for};
 use crate::targets::earlier_targets;
 use frz_bits::{Bitboards, next_square};
 use frz_board::{Colour, Kind, Man, Move, Square, man_of};
@@ -37,18 +37,95 @@ fn add_named(
     m: Move,
     taken: u8,
     target: &Option<Square>,
-    ready: &Option<Ready>,
     out: &mut Preds,
 )
     requires taken { taken ≤ 12 }
     requires number { HasNumber set.now at q.now }
-    requires ready { IfSome ready.now (λ r. IsReady q.now m.to r) }
     requires valid { IsValid q.now }
     requires room { length out.old + 1 ≤ 131072 }
     ensures { Adds (ComesFrom set.now q.now m taken target.now) out.old out.new 1 }
 {
-    if let Some(number) = number_before(set, at, q, m, taken, target, ready) {
+    if let Some(number) = number_before(set, at, q, m, taken, target) {
         out.push(Pred { number, mv: m });
+    }
+}
+
+/// Adds the move of the man of `ready`, which took nothing, if the set has the position before it.
+fn add_step(set: &Set, at: u32, q: &Bitboards, m: Move, ready: &Ready, out: &mut Preds)
+    requires number { HasNumber set.now at q.now }
+    requires quiet { IsQuietBack q.now m 0 ready.now.man }
+    requires ready { IsReady q.now m.to ready.now }
+    requires origin { is_quiet_origin ready.now m.to m.from ≡ true }
+    requires room { length out.old + 1 ≤ 131072 }
+    ensures { Adds (ComesFrom set.now q.now m 0 None) out.old out.new 1 }
+{
+    if let Some(number) = number_by_lines(set, at, q, m, ready) {
+        out.push(Pred { number, mv: m });
+    }
+}
+
+/// Adds the moves of the man of `ready` from the squares `origins` that took nothing.
+fn add_steps(
+    set: &Set,
+    at: u32,
+    q: &Bitboards,
+    to: Square,
+    origins: u64,
+    ready: &Ready,
+    out: &mut Preds,
+)
+    requires number { HasNumber set.now at q.now }
+    requires ready { IsReady q.now to ready.now }
+    requires origins { HasOrigins set.now q.now to None origins }
+    requires room { length out.old + 64 ≤ 131072 }
+    ensures { Adds (ComesAt set.now q.now to None 0 None) out.old out.new 64 }
+{
+    let quiet = quiet_origins(q, ready, to, origins);
+    let promo = None;
+    let mut n = 0;
+    while let Some(from) = next_square(quiet, n) {
+        add_step(set, at, q, Move { from, to, promo }, ready, out);
+        n = from.number() + 1;
+    }
+}
+
+/// Adds the moves from the squares `origins` that took the cell `taken` and had this earlier
+/// target. Each position before such a move is tested.
+fn add_tested(
+    set: &Set,
+    at: u32,
+    q: &Bitboards,
+    arrival: &Arrival,
+    origins: u64,
+    taken: u8,
+    target: &Option<Square>,
+    out: &mut Preds,
+)
+    requires promo { is_promotion arrival.now.promo ≡ true }
+    requires taken { taken ≤ 12 }
+    requires origins { HasOrigins set.now q.now arrival.now.to arrival.now.promo origins }
+    requires number { HasNumber set.now at q.now }
+    requires valid { IsValid q.now }
+    requires room { length out.old + 64 ≤ 131072 }
+    ensures { Adds (ComesAt set.now q.now arrival.now.to arrival.now.promo taken target.now)
+        out.old out.new 64 }
+{
+    let mut n = 0;
+    while let Some(from) = next_square(origins, n) {
+        add_named(
+            set,
+            at,
+            q,
+            Move {
+                from,
+                to: arrival.to,
+                promo: arrival.promo,
+            },
+            taken,
+            target,
+            out,
+        );
+        n = from.number() + 1;
     }
 }
 
@@ -73,24 +150,9 @@ fn add_at(
     ensures { Adds (ComesAt set.now q.now arrival.now.to arrival.now.promo taken target.now)
         out.old out.new 64 }
 {
-    let ready = ready_for(q, arrival.to, arrival.promo, taken, target);
-    let mut n = 0;
-    while let Some(from) = next_square(origins, n) {
-        add_named(
-            set,
-            at,
-            q,
-            Move {
-                from,
-                to: arrival.to,
-                promo: arrival.promo,
-            },
-            taken,
-            target,
-            &ready,
-            out,
-        );
-        n = from.number() + 1;
+    match ready_for(q, arrival.to, arrival.promo, taken, target) {
+        Some(ready) => add_steps(set, at, q, arrival.to, origins, &ready, out),
+        None => add_tested(set, at, q, arrival, origins, taken, target, out),
     }
 }
 
@@ -126,13 +188,14 @@ fn add_taking(
 
 /// Has the set room for one man more, the one of this cell on the square? `false` for no man.
 fn may_take(set: &Set, q: &Bitboards, taken: u8, to: Square) -> bool
+    requires { Member set.now q.now }
     ensures { MatchOption (man_of_cell taken)
         (result ≡ false)
         (λ man. result ≡ has_room set.now q.now man to) }
 {
     match man_of(taken) {
         None => false,
-        Some(man) => set.has_room(q, man, to),
+        Some(man) => set.has_room_beside(q, man, to),
     }
 }
 

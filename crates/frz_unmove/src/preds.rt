@@ -6,16 +6,21 @@ use std::alloc::Global;
 use std::marker::Model;
 
 /// A number of a set, and a move from its position.
-#[derive(Clone, Copy, Debug, PartialEq, Eq)]
+#[derive(Clone, Copy, PartialEq, Eq)]
 pub struct Pred {
     pub number: u32,
     pub mv: Move,
 }
 
 /// A list of the moves to one position, with room for all that there can be.
-#[derive(Drop)]
 pub struct Preds {
     list: Vec<Pred>,
+}
+
+impl Drop for Preds {
+    fn drop(self) {
+        let Preds { list: _ } = self;
+    }
 }
 
 impl Model for Preds {

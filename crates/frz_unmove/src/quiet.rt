@@ -1,13 +1,17 @@
 //! The position before a move that took nothing and was no pawn's, and its number.
-ghost use Rattle.std.specs.Prelude.{◌≡◌, ◌↔◌, IfSome, None, Some, true, ℕ};
+ghost use Rattle.std.specs.Prelude.{◌≡◌, ◌↔◌, ◌<◌, ◌&&◌, IfSome, None, Some, false, true, ℕ};
 ghost use Rattle.frz_board.specs.Attacks.{reaches};
+ghost use Rattle.frz_board.specs.Boards.{is_empty};
+ghost use Rattle.frz_board.specs.Men.{is_pawn};
+ghost use Rattle.frz_board.specs.Moving.{IsStep};
 ghost use Rattle.frz_fide.specs.Valid.{IsValid};
 ghost use Rattle.frz_index.specs.Members.{HasNumber};
 ghost use Rattle.frz_index.specs.Stepping.{stepped};
-ghost use Rattle.frz_unmove.specs.Quiet.{IsQuietBack, IsReady};
+ghost use Rattle.frz_squares.specs.SquareSets.{has_square};
+ghost use Rattle.frz_unmove.specs.Quiet.{IsPieceAt, IsQuietBack, IsReady, is_quiet_origin};
 
 use crate::earlier::is_valid;
-use frz_bits::{Bitboards, next_square};
+use frz_bits::{Bitboards, next_square, without};
 use frz_board::{Kind, Man, Move, Square, cell_of};
 use frz_index::Set;
 
@@ -43,17 +47,35 @@ fn back(q: &Bitboards, man: Man, from: Square, to: Square, target: &Option<Squar
     p
 }
 
-/// The board without the man that has moved, and the square of the king of the side to move, which
-/// is not attacked on that board.
+/// The man that has moved, the board without him, and the square of the king of the side to move,
+/// which is not attacked on that board.
 #[derive(Drop)]
 pub(crate) struct Ready {
+    pub man: Man,
     pub bare: Bitboards,
     pub king: Square,
 }
 
+/// The man that has moved to the square, if it is no pawn and `q` has no en passant target.
+fn piece_at(q: &Bitboards, to: Square) -> Option<Man>
+    ensures { IfSome result (λ man. IsPieceAt q.now to man) }
+{
+    if q.ep().is_some() || !q.holds(q.turn().other(), to) {
+        return None;
+    }
+    match q.man(to) {
+        None => None,
+        Some(man) => match man.kind {
+            Kind::Pawn => None,
+            _ => Some(man),
+        },
+    }
+}
+
 /// The board without the man on the square. `None` if the king of the side to move is then
 /// attacked.
-fn bared(q: &Bitboards, to: Square) -> Option<Ready>
+fn bared(q: &Bitboards, to: Square, mover: Man) -> Option<Ready>
+    requires { IsPieceAt q.now to mover }
     ensures { IfSome result (λ r. IsReady q.now to r) }
 {
     let bare = q.put(to, 0);
@@ -65,7 +87,11 @@ fn bared(q: &Bitboards, to: Square) -> Option<Ready>
         kind: Kind::King,
     };
     let king = next_square(q.men(man), 0)?;
-    Some(Ready { bare, king })
+    Some(Ready {
+        man: mover,
+        bare,
+        king,
+    })
 }
 
 /// `bared`, for moves to the square that took nothing, promoted nothing and are no pawn's, with no
@@ -77,55 +103,58 @@ pub(crate) fn ready_for(
     taken: u8,
     target: &Option<Square>,
 ) -> Option<Ready>
-    ensures { IfSome result (λ r. IsReady q.now to r) }
+    ensures ready { IfSome result (λ r. IsReady q.now to r) }
+    ensures plain { IfSome result (λ _. (taken ≡ 0) × (target.now ≡ None) × (promo ≡ None)) }
 {
     if taken != 0 || (target.is_some() || promo.is_some()) {
         return None;
     }
-    if q.ep().is_some() || q.has(q.turn().other(), Kind::Pawn, to) {
-        return None;
-    }
-    bared(q, to)
+    let man = piece_at(q, to)?;
+    bared(q, to, man)
 }
 
-/// The number of the position before the move, if the set has it and the man can go so. That
-/// position has no target. The test looks at the man's ways on the board of `ready` alone: it must
-/// have one to its new square, and none to the king.
-fn number_by_lines(
+/// Those of `squares` from which the man of `ready` may have gone to his square: they are empty,
+/// and on the board without him he has an open way to it and none to the king.
+pub(crate) fn quiet_origins(q: &Bitboards, ready: &Ready, to: Square, squares: u64) -> u64
+    requires { is_pawn ready.now.man.kind ≡ false }
+    ensures { (a : ℕ) → a < 64 → has_square result a
+        ≡ (has_square squares a && (is_empty q.now a && is_quiet_origin ready.now to a)) }
+{
+    let free = without(squares, q.occupied());
+    let ways = ready.bare.reached(ready.man, to, free);
+    without(ways, ready.bare.reached(ready.man, ready.king, ways))
+}
+
+/// The number of the position before the move from one of the squares that `quiet_origins` gives,
+/// if the set has it. That position has no target, and needs no test.
+pub(crate) fn number_by_lines(
     set: &Set,
     at: u32,
     q: &Bitboards,
-    man: Man,
     m: Move,
-    taken: u8,
-    target: &Option<Square>,
     ready: &Ready,
 ) -> Option<u32>
     requires number { HasNumber set.now at q.now }
-    requires quiet { IsQuietBack q.now m taken man }
+    requires quiet { IsQuietBack q.now m 0 ready.now.man }
     requires ready { IsReady q.now m.to ready.now }
-    requires none { target.now ≡ None }
-    ensures { let p = stepped q.now man m.to m.from target.now in
+    requires origin { is_quiet_origin ready.now m.to m.from ≡ true }
+    ensures step { IsStep m }
+    ensures number { let p = stepped q.now ready.now.man m.to m.from None in
+        let man = ready.now.man in
         (i : ℕ) → (result ≡ Some i)
         ↔ (HasNumber set.now i p × (reaches p man.colour man.kind m.from m.to ≡ true)) }
 {
     let _from = m.from.number();
     let _to = m.to.number();
-    if !ready.bare.reaches(man, m.from, m.to) {
-        return None;
-    }
-    if ready.bare.reaches(man, m.from, ready.king) {
-        return None;
-    }
-    match set.number_after_step(at, q, man, m.to, m.from, target) {
+    match set.number_after_step(at, q, ready.man, m.to, m.from, &None) {
         Some(n) => Some(n),
-        None => set.number_beside(at, q, &back(q, man, m.from, m.to, target)),
+        None => set.number_beside(at, q, &back(q, ready.man, m.from, m.to, &None)),
     }
 }
 
 /// The number of the position before the move, if the set has it and the man can go so. The
 /// position is made, and its validity tested.
-fn number_by_board(
+pub(crate) fn number_by_board(
     set: &Set,
     at: u32,
     q: &Bitboards,
@@ -150,32 +179,5 @@ fn number_by_board(
     match set.number_after_step(at, q, man, m.to, m.from, target) {
         Some(n) => Some(n),
         None => set.number_beside(at, q, &p),
-    }
-}
-
-/// The number of the position before the move, if the set has it and the man can go so.
-pub(crate) fn number_before_step(
-    set: &Set,
-    at: u32,
-    q: &Bitboards,
-    man: Man,
-    m: Move,
-    taken: u8,
-    target: &Option<Square>,
-    ready: &Option<Ready>,
-) -> Option<u32>
-    requires number { HasNumber set.now at q.now }
-    requires quiet { IsQuietBack q.now m taken man }
-    requires ready { IfSome ready.now (λ r. IsReady q.now m.to r) }
-    ensures { let p = stepped q.now man m.to m.from target.now in
-        (i : ℕ) → (result ≡ Some i)
-        ↔ (HasNumber set.now i p × (reaches p man.colour man.kind m.from m.to ≡ true)) }
-{
-    match target {
-        None => match ready {
-            Some(r) => number_by_lines(set, at, q, man, m, taken, target, r),
-            None => number_by_board(set, at, q, man, m, taken, target),
-        },
-        Some(_) => number_by_board(set, at, q, man, m, taken, target),
     }
 }

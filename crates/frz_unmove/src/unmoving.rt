@@ -22,8 +22,5 @@ pub fn unmoves<L: Ledger>(set: &Set, q: u32, out: &mut Preds, steps: &mut Steps<
 {
     steps.tick();
     out.clear();
-    match set.boards_at(q) {
-        None => unreachable!(),
-        Some(p) => add_all(set, q, &p, out),
-    }
+    add_all(set, q, &set.boards_of(q), out);
 }

@@ -81,7 +81,7 @@ next_outside groups k q w v e = elim (cases_Bool (is_member groups q)) [
 
 module _ {S R : Type 0} (rules : RuleLines) (value : Board → Value) (side : Colour)
     (codes : ℕ → List ℕ) (opponent : Opponent (ℕ × ℕ) S R) where
-  abbrev player : Player Step (ℕ × ℕ) Value S R
+  abbrev pub player : Player Step (ℕ × ℕ) Value S R
   player = reader (graph_by rules value) side codes opponent
 
   -- the ply is that of a legal move of its number
@@ -94,7 +94,7 @@ module _ {S R : Type 0} (rules : RuleLines) (value : Board → Value) (side : Co
     pub free : is_free rules position.turn position move ≡ x.arm.free
 
   -- its arm
-  arm_made : (p : Board) (x : LinePly) (m : Step) → position_at rules.groups x.from.1 ≡ Some p
+  pub arm_made : (p : Board) (x : LinePly) (m : Step) → position_at rules.groups x.from.1 ≡ Some p
       → slice_get (legal_moves_of p) x.place ≡ Some m → IsPlyOf player x
       → x.arm ≡ named (later (suc x.from.0)) (arm_at rules value p m)
   arm_made p x m at there keeps =
@@ -126,7 +126,7 @@ module _ {S R : Type 0} (rules : RuleLines) (value : Board → Value) (side : Co
       (sym (ap (λ (a : Arm Step (ℕ × ℕ) Value). a.next) e) ∙ leads)
 
   -- the move of a ply from a position
-  move_made : (p : Board) (x : LinePly) → position_at rules.groups x.from.1 ≡ Some p
+  pub move_made : (p : Board) (x : LinePly) → position_at rules.groups x.from.1 ≡ Some p
       → (made : IsMade x) → (made.position ≡ p) × (slice_get (legal_moves_of p) x.place
       ≡ Some made.move)
   move_made p x here made =
@@ -154,7 +154,7 @@ module _ {S R : Type 0} (rules : RuleLines) (value : Board → Value) (side : Co
             same_freedom ∙ (made.free ∙ made.keeps.free own);
       }
 
-  next_from : (p : Board) (x : LinePly) (to : ℕ × ℕ) → position_at rules.groups x.from.1 ≡ Some p
+  pub next_from : (p : Board) (x : LinePly) (to : ℕ × ℕ) → position_at rules.groups x.from.1 ≡ Some p
       → IsMade x → x.arm.next ≡ Inside to → position_at rules.groups to.1 ≡ Some (after p x.arm.mv)
   next_from p x to here made leads =
       let there = move_made p x here made in
@@ -170,7 +170,7 @@ module _ {S R : Type 0} (rules : RuleLines) (value : Board → Value) (side : Co
       next_outside rules.groups (suc x.from.0) (after p m) (value (after p m)) v
       (sym (ap (λ (a : Arm Step (ℕ × ℕ) Value). a.next) e) ∙ leads)
 
-  value_from : (p : Board) (x : LinePly) (v : Value) → position_at rules.groups x.from.1 ≡ Some p
+  pub value_from : (p : Board) (x : LinePly) (v : Value) → position_at rules.groups x.from.1 ≡ Some p
       → IsMade x → x.arm.next ≡ Outside v → v ≡ value (after p x.arm.mv)
   value_from p x v here made leads =
       let there = move_made p x here made in
@@ -234,7 +234,7 @@ module _ {S R : Type 0} (rules : RuleLines) (value : Board → Value) (side : Co
       game_on plies p each follows
       (λ x e. ap (λ (z : ℕ × ℕ). position_at rules.groups z.1) (first x e) ∙ at)
 
-  each_made : (start : ℕ) (s t : S) (plies : List LinePly) (end : End (ℕ × ℕ) Value R)
+  pub each_made : (start : ℕ) (s t : S) (plies : List LinePly) (end : End (ℕ × ℕ) Value R)
       → IsWay player 0 s (0, start) plies end t
       → ((x : LinePly) → Contains plies x → IsPlyOf player x)
       → (i : ℕ) (x : LinePly) → slice_get plies i ≡ Some x → IsMade x

@@ -26,6 +26,7 @@ mod WayStarts
 mod LineOfWay
 mod SessionOfWay
 mod GamesOfChess
+mod GameOver
 mod Alternating
 mod Ending
 mod FewBytes

@@ -11,7 +11,7 @@ use Rattle.frz_arena.specs.Arena.{Arena}
 use Rattle.frz_arena.specs.Inputs.{Answer, Reply, Stop}
 use Rattle.frz_arena.specs.WayEnds.{Wrong, NoBound, Mated, Stalemated, Exit, Cut, Stopped}
 use Rattle.frz_arena.specs.Ways.{IsStopBy, Over as OverWay, Moves, stage}
-use Rattle.frz_prelude.specs.BoundLines.{kept_line}
+use Rattle.frz_bound_lines.specs.BoundLines.{kept_line}
 use Rattle.frz_ways.specs.declared.due.Due.{Due}
 use Rattle.frz_ways.specs.declared.due.Due.TheVariants as dues
 use Rattle.frz_ways.specs.declared.end.LineFault.TheVariants as faults

@@ -18,7 +18,7 @@ use Rattle.frz_arena.specs.WayEnds.{Wrong, NoBound, Mated, Stalemated, Cut, Stop
 use Rattle.frz_arena.specs.Ways.{Over as OverWay}
 use Rattle.frz_graph.specs.EntryCodes.{arm_code}
 use Rattle.frz_graph.specs.Finite.{IsFinite}
-use Rattle.frz_prelude.specs.BoundLines.{side_name, kept_words, kept_line}
+use Rattle.frz_bound_lines.specs.BoundLines.{side_name, kept_words, kept_line}
 use Rattle.frz_ways.specs.declared.due.Due.{Due}
 use Rattle.frz_ways.specs.declared.due.Due.TheVariants as dues
 use Rattle.frz_ways.specs.declared.end.LineFault.TheVariants as faults

@@ -17,6 +17,7 @@ pub mod SessionFaults
 pub mod PlaySession
 pub mod Hearing
 pub mod Ways
+pub mod EndsOfGames
 pub mod WayTexts
 pub mod WayEnds
 pub mod Turns

@@ -8,7 +8,7 @@ use Rattle.frz_sets.specs.declared.exit.Value.TheVariants.{WhiteWins, BlackWins,
 use Rattle.frz_arena.specs.declared.arm.Arm.{Arm}
 use Rattle.frz_arena.specs.declared.arm.Next.{Next}
 use Rattle.frz_arena.specs.declared.arm.Next.TheVariants.{Inside, Outside}
-use Rattle.frz_prelude.specs.BoundLines.{kept_line}
+use Rattle.frz_bound_lines.specs.BoundLines.{kept_line}
 use Rattle.frz_ways.specs.declared.end.LineEnd.{LineEnd}
 use Rattle.frz_ways.specs.declared.end.LineEnd.TheVariants as ends
 use Rattle.frz_ways.specs.declared.end.LineFault.{LineFault}

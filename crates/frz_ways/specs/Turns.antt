@@ -19,7 +19,7 @@ use Rattle.frz_arena.specs.Codes.{is_win, is_failure}
 use Rattle.frz_arena.specs.LocalCodes.{node_code}
 use Rattle.frz_arena.specs.WayEnds.{Exit}
 use Rattle.frz_graph.specs.FreeCodes.{free_among}
-use Rattle.frz_prelude.specs.BoundLines.{kept_line}
+use Rattle.frz_bound_lines.specs.BoundLines.{kept_line}
 use Rattle.frz_ways.specs.declared.due.Due.{Due}
 use Rattle.frz_ways.specs.declared.due.Due.TheVariants as dues
 use Rattle.frz_ways.specs.declared.end.LineFault.TheVariants as faults

@@ -6,7 +6,7 @@ use frz_arena::{Node, is_failure};
 use frz_board::Colour;
 
 /// What is due at a number of a way. A colour is that of the side to move.
-#[derive(Clone, Copy, Debug, PartialEq, Eq)]
+#[derive(Clone, Copy, PartialEq, Eq)]
 pub enum Due {
     /// The kept code differs from the local code, which is given here.
     Wrong(u64),

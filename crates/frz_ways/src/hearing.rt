@@ -15,7 +15,7 @@ use frz_graph::NextList;
 use frz_store::{Failed, Sink, Source};
 
 /// Why an input gives no reply.
-#[derive(Clone, Copy, Debug, PartialEq, Eq, Drop)]
+#[derive(Clone, Copy, PartialEq, Eq, Drop)]
 pub enum Why {
     Ended,
     Limit(PlayLimit),

@@ -22,9 +22,9 @@ use crate::texts::write_moved;
 use crate::way_end::WayEnd;
 use frz_answer::write_piece;
 use frz_board::{Colour, Move};
+use frz_bound_lines::write_kept_line;
 use frz_game::Wrong;
 use frz_graph::{Lists, Next};
-use frz_prelude::write_kept_line;
 use frz_sets::Value;
 use frz_store::{Failed, Sink, Source};
 

@@ -10,7 +10,7 @@ use crate::words::{count_words, next_word};
 use std::marker::Model;
 
 /// A line of a text without its line feed, and its number; the first line has number 1.
-#[derive(Clone, Copy, Debug, Drop)]
+#[derive(Clone, Copy, Drop)]
 pub struct Line<'a> {
     pub number: u32,
     pub text: &'a [u8],

@@ -13,7 +13,7 @@ use frz_unmove::{Pred, Preds};
 use std::sync::ledger::Ledger;
 
 /// A move of a number, and where it leads.
-#[derive(Clone, Copy, Debug)]
+#[derive(Clone, Copy)]
 pub struct Edge {
     pub number: u32,
     pub next: Next,

@@ -1,5 +1,6 @@
 //! Positions and moves at the border, and the start of a game.
 
+use crate::expect::{expect_equal, expect_holds};
 use frz_bits::Bitboards;
 use frz_board::{
     Colour, Kind, Man, Move, Position, Shape, Square, cell_of, man_of, move_text, read_move,
@@ -31,11 +32,15 @@ fn reads_the_start_of_a_game(rt: HostRuntime) -> Result<(), Fail> {
         colour: Colour::White,
         kind: Kind::King,
     };
-    assert_eq!(rt; (p.man(e1), p.cell(e1)), (Some(king), 1));
-    assert!(rt; p.holds(Colour::White, e1) && !p.holds(Colour::White.other(), e1));
-    assert_eq!(rt;
-        (p.turn(), p.ep(), p.shape()),
-        (Colour::White, None, Ok(()))
+    expect_equal(&rt, &(p.man(e1), p.cell(e1)), &(Some(king), 1));
+    expect_holds(
+        &rt,
+        p.holds(Colour::White, e1) && !p.holds(Colour::White.other(), e1),
+    );
+    expect_equal(
+        &rt,
+        &(p.turn(), p.ep(), p.shape()),
+        &(Colour::White, None, Ok(())),
     );
     Ok(())
 }
@@ -46,9 +51,10 @@ fn cells_stand_for_men(rt: HostRuntime) {
         colour: Colour::Black,
         kind: Kind::Pawn,
     };
-    assert_eq!(rt;
-        (cell_of(pawn), man_of(12), man_of(13)),
-        (12, Some(pawn), None)
+    expect_equal(
+        &rt,
+        &(cell_of(pawn), man_of(12), man_of(13)),
+        &(12, Some(pawn), None),
     );
 }
 
@@ -68,8 +74,8 @@ fn names_the_first_condition_that_fails(rt: HostRuntime) -> Result<(), Fail> {
         (p.put(d5, 12), Shape::TooMany),
         (p.hand_over(Some(e4)), Shape::EpPlace),
     ] {
-        assert_eq!(rt; q.shape(), Err(fault));
-        assert_eq!(rt; Bitboards::of(&q).shape(), Err(fault));
+        expect_equal(&rt, &q.shape(), &Err(fault));
+        expect_equal(&rt, &Bitboards::of(&q).shape(), &Err(fault));
     }
     Ok(())
 }
@@ -81,17 +87,20 @@ fn keeps_a_target_that_a_pawn_can_capture(rt: HostRuntime) -> Result<(), Fail> {
     let (d5, d6, d7) = (Square::at(35), Square::at(43), Square::at(51));
     let p = start()?.put(e2, 0).put(e5, 6).put(d7, 0).put(d5, 12);
     let p = p.hand_over(None).hand_over(Some(d6));
-    assert!(rt; p.has_passed(Colour::Black, d6) && p.has_pawn_beside(Colour::White, d5));
-    assert!(rt; p.shape().is_ok());
-    assert_eq!(rt; p.put(e5, 0).put(a2, 6).shape(), Err(Shape::EpPlace));
+    expect_holds(
+        &rt,
+        p.has_passed(Colour::Black, d6) && p.has_pawn_beside(Colour::White, d5),
+    );
+    expect_holds(&rt, p.shape().is_ok());
+    expect_equal(&rt, &p.put(e5, 0).put(a2, 6).shape(), &Err(Shape::EpPlace));
     Ok(())
 }
 
 /// A text is read as the move that queens, one as the move that stays on e7, and two are not read.
 fn check_read(rt: &impl Abort, queens: Move, stays: Move) {
     let read = [read_move(b"e7e8q"), read_move(b"e7e8k"), read_move(b"e7e9")];
-    assert_eq!(rt; read, [Some(queens), None, None]);
-    assert!(rt; read_move(b"e7e7") == Some(stays));
+    expect_equal(rt, &read, &[Some(queens), None, None]);
+    expect_holds(rt, read_move(b"e7e7") == Some(stays));
 }
 
 #[test]
@@ -107,8 +116,8 @@ fn writes_and_reads_moves(rt: HostRuntime) {
         to: e7,
         promo: None,
     };
-    assert_eq!(rt; move_text(queens).as_str(), "e7e8q");
-    assert!(rt; Move::new(e7, e8, Some(Kind::Queen)) == Some(queens));
-    assert!(rt; Move::new(e7, e8, Some(Kind::King)).is_none());
+    expect_equal(&rt, &move_text(queens).as_str(), &"e7e8q");
+    expect_holds(&rt, Move::new(e7, e8, Some(Kind::Queen)) == Some(queens));
+    expect_holds(&rt, Move::new(e7, e8, Some(Kind::King)).is_none());
     check_read(&rt, queens, stays);
 }

@@ -1,5 +1,6 @@
 //! FEN texts that are right, and faults of each sort.
 
+use crate::expect::{expect_equal, expect_holds};
 use frz_board::{Colour, Position, Shape, Square};
 use frz_fen::{FenFault, read_fen, write_fen};
 use frz_fide::Invalid;
@@ -16,8 +17,8 @@ fn is_start(p: &Position) -> bool {
 fn reads_and_writes_the_start_of_a_game(rt: HostRuntime) -> Result<(), Fail> {
     let start = "rnbqkbnr/pppppppp/8/8/8/8/PPPPPPPP/RNBQKBNR w - - 0 1";
     let p = read_fen(start.as_bytes())?;
-    assert!(rt; is_start(&p));
-    assert_eq!(rt; write_fen(&p).as_str(), start);
+    expect_holds(&rt, is_start(&p));
+    expect_equal(&rt, &write_fen(&p).as_str(), &start);
     Ok(())
 }
 
@@ -25,7 +26,11 @@ fn reads_and_writes_the_start_of_a_game(rt: HostRuntime) -> Result<(), Fail> {
 #[test]
 fn writes_the_fewest_digits(rt: HostRuntime) -> Result<(), Fail> {
     let p = read_fen(b" 8/8/11k41/8/8/8/35/4K1R1  b - - ")?;
-    assert_eq!(rt; write_fen(&p).as_str(), "8/8/2k5/8/8/8/8/4K1R1 b - - 0 1");
+    expect_equal(
+        &rt,
+        &write_fen(&p).as_str(),
+        &"8/8/2k5/8/8/8/8/4K1R1 b - - 0 1",
+    );
     Ok(())
 }
 
@@ -55,10 +60,15 @@ const MISPLACED: &[Refused] = &[
 #[test]
 fn drops_a_target_that_no_pawn_captures(rt: HostRuntime) -> Result<(), Fail> {
     let d6 = Square::at(43);
-    assert_eq!(rt; read_fen(b"4k3/8/8/3p4/8/8/8/4K3 w - d6 0 1")?.ep(), None);
-    assert_eq!(rt;
-        read_fen(b"8/8/8/3pP3/8/8/8/K1k5 w - d6 0 1")?.ep(),
-        Some(d6)
+    expect_equal(
+        &rt,
+        &read_fen(b"4k3/8/8/3p4/8/8/8/4K3 w - d6 0 1")?.ep(),
+        &None,
+    );
+    expect_equal(
+        &rt,
+        &read_fen(b"8/8/8/3pP3/8/8/8/K1k5 w - d6 0 1")?.ep(),
+        &Some(d6),
     );
     expect_faults(&rt, MISPLACED);
     Ok(())

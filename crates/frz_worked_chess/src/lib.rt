@@ -5,6 +5,8 @@
 #[cfg(test)]
 mod board;
 #[cfg(test)]
+mod expect;
+#[cfg(test)]
 mod fens;
 #[cfg(test)]
 mod moves;

@@ -3,6 +3,7 @@
 ghost use Rattle.std.specs.Prelude.{◌≡◌, ◌<◌};
 ghost use Rattle.frz_fide.specs.Valid.{IsValid};
 
+use crate::expect::{expect_equal, expect_holds};
 use crate::placement::{set_up, set_up_valid};
 use frz_board::{Colour, Move, Position, move_text};
 use frz_fide::{Ending, Invalid, ending, legal_moves, play, valid};
@@ -119,8 +120,8 @@ fn ends_in_mate_or_stalemate(rt: HostRuntime) -> Result<(), Fail> {
 #[test]
 fn the_side_not_to_move_is_not_in_check(rt: HostRuntime) -> Result<(), Fail> {
     let p = set_up("k6R/8/1K6/8/8/8/8/8", Colour::White, None)?;
-    assert_eq!(rt; valid(&p), Err(Invalid::OpponentInCheck));
-    assert!(rt; p.shape().is_ok());
+    expect_equal(&rt, &valid(&p), &Err(Invalid::OpponentInCheck));
+    expect_holds(&rt, p.shape().is_ok());
     Ok(())
 }
 

@@ -9,6 +9,7 @@ use Rattle.frz_answer.proofs.Lemmas.{failed_before}
 use Rattle.frz_index.specs.Members.{Member, Num}
 use Rattle.frz_arena.specs.declared.bound.Bound.{Bound}
 use Rattle.frz_arena.specs.Codes.{code_of}
+use Rattle.frz_arena.specs.WayCases.{Way}
 use Rattle.frz_exits.specs.Books.{value_by}
 use Rattle.frz_game.specs.Bounds.{IsBoundAt, IsTableOf}
 use Rattle.frz_game.specs.Games.{graph_by}
@@ -23,7 +24,7 @@ use Rattle.frz_ways.specs.Reading.{Input}
 use Rattle.frz_ways.specs.SessionFaults.{WroteBy}
 use Rattle.frz_ways.specs.WayEnds.{Finishes, IsFinishOf, ended, told}
 use Rattle.frz_ways.specs.WayTexts.{way_text}
-use Rattle.frz_ways.specs.Ways.{WayPly, EndOfWay, GoesOn}
+use Rattle.frz_ways.specs.Ways.{WayPly, EndOfWay, GoesOn, way_player}
 use Rattle.library_example.specs.Lines.{AnswersEnd, KeepsBound, PlaysLine}
 use Rattle.library_example.proofs.KeptCodes.{code_of_bound}
 
@@ -64,16 +65,26 @@ module _ (rules : RuleLines) (side : Colour) (codes : List ℕ)
       (Num rules.groups p) plies end left
       × KeepsBound rules side p bound plies end
 
+  -- a way by recursion is one by the named cases
+  abbrev pub ByCases : Type 0
+  ByCases =
+      (input : Input) (plies : List WayPly) (end : EndOfWay) (left : Input)
+      → GoesOn (graph_by rules (value_by rules)) Codes side (λ k. codes) 0 input
+      (Num rules.groups p) plies end left
+      → Way (way_player (graph_by rules (value_by rules)) Codes side (λ k. codes)) 0 input
+      (0, Num rules.groups p) plies end left
+
   -- and what is played from the position's number is that line
   pub line_played : (start : ℕ) (old new : Reader) (bytes text : List ℕ)
       (result : Result Finish PlayFault) (before now : ℕ) (out taken : SinkTold)
       → start ≡ Num rules.groups p
       → PlaysLoaded (graph_by rules (value_by rules)) Codes side codes start old new bytes text result
       before now → WroteBy result text out taken → IsFinishOf result Codes → IsSettled result
-      → KeptLine → PlaysLine rules side p bound result out taken
+      → KeptLine → ByCases → PlaysLine rules side p bound result out taken
   line_played start old new bytes text result before now out taken number plays wrote kind settled
-      kept =
-      let line = kept (record { left = bytes ++ []; more = old.more }) in
+      kept cases =
+      let input : Input = record { left = bytes ++ []; more = old.more } in
+      let line = kept input in
       let plies = line.0 in
       let end = line.1 in
       let played = (subst (λ n. PlaysLoaded (graph_by rules (value_by rules)) Codes side codes n old
@@ -87,6 +98,13 @@ module _ (rules : RuleLines) (side : Colour) (codes : List ℕ)
       record {
         plies = plies;
         end = end;
+        line = record {
+          codes = codes;
+          table = table;
+          input = input;
+          left = line.2;
+          goes_on = cases input plies end line.2 line.3;
+        };
         keeps = line.4;
         wrote = told.0;
         answers = told.1;

@@ -20,11 +20,12 @@ use frz_arena::laws::ways::games_are_closed;
 use frz_board::{Move, Position};
 use frz_game::laws::numbers::{membership, numbered};
 use frz_rules::Value;
+use frz_ways::laws::ends::ways_end_in_chess;
 use frz_ways::laws::ways::{bounds_are_kept, one_way, ways_are_games};
 use std::marker::Model;
 
 /// Stands for what is left of an input, in laws of `frz_arena`. A line reads none.
-struct LeftInput;
+pub struct LeftInput;
 
 impl Model for LeftInput {
     ghost use Rattle.std.specs.Prelude.{[]};
@@ -36,7 +37,7 @@ impl Model for LeftInput {
 }
 
 /// Stands for why an input stops, in the same laws.
-struct HaltedInput;
+pub struct HaltedInput;
 
 impl Model for HaltedInput {
     ghost use Rattle.frz_ways.specs.declared.hearing.Why.TheVariants.{Ended};
@@ -60,6 +61,7 @@ pub fn bounds_kept_in_lines()
 {
     one_way();
     ways_are_games();
+    ways_end_in_chess();
     bounds_are_kept();
     wins_in_lines::<Move, (u32, u32), Value, LeftInput, HaltedInput>();
     holds_in_lines::<Move, (u32, u32), Value, LeftInput, HaltedInput>();

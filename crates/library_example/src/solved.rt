@@ -1,11 +1,11 @@
 //! The tables of a rules text in memory: solved once, and asked as often as one likes.
 
-ghost use Rattle.std.specs.Prelude.{◌≡◌, ◌↔◌, Ok, Err, IsNone, IfOk, IfSome};
+ghost use Rattle.std.specs.Prelude.{◌≡◌, ◌↔◌, Err, IsNone, IfOk, IfSome};
 ghost use Rattle.frz_board.specs.declared.man.Colour.{Colour};
 ghost use Rattle.frz_fide.specs.Valid.{IsValid};
 ghost use Rattle.frz_sets.specs.Sound.{IsSound};
 ghost use Rattle.frz_store.specs.Told.{sink_of};
-ghost use Rattle.frz_rules.specs.Text.{rules_of};
+ghost use Rattle.frz_rules.specs.Text.{Answers, rules_of};
 ghost use Rattle.frz_index.specs.Members.{Member};
 ghost use Rattle.frz_arena.specs.declared.bound.Bound.{Bound};
 ghost use Rattle.frz_exits.specs.Books.{value_by};
@@ -16,8 +16,9 @@ ghost use Rattle.frz_ways.specs.declared.end.LineFault.TheVariants.{Outside};
 ghost use Rattle.frz_ways.specs.declared.session_end.PlayFault.TheVariants.{Line};
 ghost use Rattle.library_example.specs.Lines.{PlaysLine};
 
-use crate::laws::bounds_kept_in_lines;
+use crate::laws::{HaltedInput, LeftInput, bounds_kept_in_lines};
 use frz_arena::laws::sessions::sides_move_in_turn;
+use frz_arena::laws::ways::ways_by_cases;
 use frz_board::{Colour, Move, NoMemory, Position};
 use frz_exits::RuleBook;
 use frz_fide::laws::all_listed;
@@ -67,13 +68,13 @@ fn game_by<'a>(set: &'a Set, rules: &'a Rules, book: &'a RuleBook<'a>) -> Game<'
 
 impl Solved {
     /// Reads a rules text, and solves its game for both sides. A text that is refused gives its
-    /// fault.
+    /// fault, the first. The answer is another only where memory ran out.
     pub fn new<L: Ledger>(
         alloc: Global,
         text: &[u8],
         steps: &mut Steps<L>,
     ) -> Result<Solved, RulesError>
-        ensures { IfOk result (λ solved. rules_of text.now ≡ Ok solved) }
+        ensures { Answers result (rules_of text.now) }
     {
         let rules = read_rules(alloc, text)?;
         Solved::by_rules(alloc, rules, steps).map_err(|_| RulesError::NoMemory)
@@ -152,6 +153,7 @@ impl Solved {
         all_listed();
         sides_move_in_turn::<Position, Move, Value>();
         bounds_kept_in_lines();
+        ways_by_cases::<Move, (u32, u32), Value, LeftInput, HaltedInput>();
         let Some(start) = self.set.number(p) else {
             return Err(PlayFault::Line(LineFault::Outside));
         };

@@ -10,16 +10,25 @@ function boundRow({ words, kind, plies }) {
 
 // Shows what the position is worth to each side, and who is to move; `name` is that of the table that
 // says so, where it is one behind.
-export function showBounds({ bounds, said, end, turn }, name) {
-  const rows = bounds.length ? bounds.map(boundRow) : [boundRow({ words: said, kind: "outside", plies: null })];
+export function showBounds({ bounds, said, end, turn, verdict, beside }, name) {
   const by = name ? `, by ${name}` : "";
-  at("bounds").replaceChildren(...rows, make("p", `${turn} to move${end ? `: ${end}` : ""}${by}`, "turn"));
+  at("bounds").replaceChildren(
+    make("p", verdict, "verdict"),
+    ...rowsOf(bounds, said),
+    make("p", `${turn} to move${end ? `: ${end}` : ""}${by}`, "turn"),
+    ...(beside ? [make("p", `by ${beside.table}:`, "turn"), ...rowsOf(beside.bounds, beside.said)] : []),
+  );
+}
+
+function rowsOf(bounds, said) {
+  return bounds.length ? bounds.map(boundRow) : [boundRow({ words: said, kind: "outside", plies: null })];
 }
 
 function moveItem(move, play) {
   const item = document.createElement("li");
   const button = makeButton("", `move ${move.kind}`, () => play(move));
   button.append(make("span", move.san, "san"), make("span", move.said, "after"));
+  if (move.beside !== undefined) button.append(make("span", `beside: ${move.beside}`, "after"));
   const marks = make("span", "", "marks");
   marks.append(...move.marks.map((words) => make("span", words, "mark")));
   if (move.marks.length) button.append(marks);

@@ -1,16 +1,18 @@
 // The page: the game so far, the position shown, and the questions that are asked about it.
-import { ask, at, make, makeButton, refuse, shown } from "./ask.js";
+import { ask, at, make, refuse, shown } from "./ask.js";
 import { drawBoard, wordsOf } from "./board.js";
+import { learn, showGame } from "./game.js";
 import { listenToHand } from "./hand.js";
+import { isPgn, listenToKeeping } from "./keep.js";
 import { showBounds, showMoves } from "./moves.js";
 import { beginPremises, listenToPremises } from "./premises.js";
 import { beginReport, listenToReport, turnReport } from "./report.js";
 import { showText } from "./rules.js";
+import { Tree } from "./tree.js";
 import { clearWay, listenToWays, showWays } from "./ways.js";
 
-// The game is a list of steps, each a position and the move to it; `place` is that of the one shown, and
-// `going` that of the one that is asked for.
-const state = { game: [], place: 0, going: 0, turned: false, position: null, picked: null, told: null, asked: 0 };
+// `tree` has the game, and in it the place that is shown; `going` is the one that is asked for.
+const state = { tree: null, going: null, turned: false, position: null, picked: null, told: null, asked: 0 };
 const BUSY = 200; // milliseconds after which the page says that it waits
 const PACE = 900; // milliseconds between two moves that are played on
 
@@ -24,7 +26,7 @@ function movesFrom(square) {
 
 function marksOf() {
   const marks = {};
-  const text = state.game[state.place].move;
+  const text = state.tree.here.move;
   if (text) marks[text.slice(0, 2)] = marks[text.slice(2, 4)] = "last";
   if (state.picked) {
     for (const move of movesFrom(state.picked)) marks[move.move.slice(2, 4)] = "target";
@@ -39,23 +41,6 @@ function showBoard() {
   at("board").setAttribute("aria-label", wordsOf(fen));
 }
 
-function showGame() {
-  const inside = at("game").contains(document.activeElement);
-  at("game").replaceChildren(
-    ...state.game.map((step, place) => {
-      const item = document.createElement("li");
-      const kind = `${place === state.place ? "here" : ""} ${step.last ? "last" : ""}`.trim();
-      const button = makeButton(step.text ?? "start", kind, () => go(place));
-      if (place === state.place) button.setAttribute("aria-current", "step");
-      item.append(button);
-      return item;
-    }),
-  );
-  if (inside) at("game").querySelector(".here").focus();
-  at("back").disabled = state.place === 0;
-  at("forth").disabled = at("on").disabled = state.place + 1 >= state.game.length;
-}
-
 // Shows the moves; who chose one of them by its key can go on from the best of the next ones.
 function listMoves() {
   const inside = at("moves").contains(document.activeElement);
@@ -68,7 +53,8 @@ function show() {
   showBoard();
   showBounds(position, position.table ? tableShown().name : "");
   listMoves();
-  showGame();
+  showGame(state.tree, go);
+  history.replaceState(null, "", `#${position.fen.replaceAll(" ", "_")}`);
   showWays(position, position.table !== null && tableShown().ways);
   if (document.activeElement !== at("fen")) at("fen").value = position.fen;
 }
@@ -88,51 +74,67 @@ async function askPosition(words) {
 }
 
 // Shows a place of a game by the answer about it. Where it is refused, nothing changes.
-function arrive(position, game, place) {
+function arrive(position, tree, node) {
   refuse(position.refused ?? "");
   if (position.refused !== undefined) {
-    state.going = state.place;
+    state.going = state.tree?.here ?? null;
     playOn(false);
     return;
   }
-  game[place].turn = position.turn;
-  Object.assign(state, { game, place, going: place, position, picked: null });
+  if (tree !== state.tree) tree.former = state.tree;
+  learn(node, position);
+  tree.go(node);
+  Object.assign(state, { tree, going: node, position, picked: null });
   show();
 }
 
-const go = shown(async (place, game = state.game) => {
-  if (place < 0 || place >= game.length) return;
-  state.going = place;
-  const position = await askPosition({ fen: game[place].fen });
-  if (position) arrive(position, game, place);
+const go = shown(async (node, tree = state.tree) => {
+  if (!node) return;
+  state.going = node;
+  const position = await askPosition({ fen: node.fen });
+  if (position) arrive(position, tree, node);
 });
 
+// Goes so many places on in the line that is shown, or back.
+function step(places) {
+  const line = state.tree.line();
+  return go(line[line.indexOf(state.going) + places]);
+}
+
 const play = shown(async (move) => {
-  const { game, place } = state;
-  const position = await askPosition({ fen: game[place].fen, san: move.san });
+  const { tree } = state;
+  const { here } = tree;
+  const position = await askPosition({ fen: here.fen, san: move.san });
   if (!position) return;
   clearWay();
-  const step = { fen: position.fen, san: move.san, move: move.move };
-  arrive(position, numbered([...game.slice(0, place + 1), step]), place + 1);
+  if (position.refused !== undefined) arrive(position, tree, here);
+  else arrive(position, tree, tree.put(here, [{ fen: position.fen, san: move.san, move: move.move }]));
 });
 
 function open(fen) {
   clearWay();
-  return go(0, [{ fen }]);
+  const tree = new Tree(fen);
+  return go(tree.root, tree);
 }
 
-// The steps of a game with their texts: the number of the move before each of White's, and before the
-// first one where Black begins.
-function numbered(game) {
-  let black = game[0].turn === "black";
-  let number = 1;
-  return game.map((step, place) => {
-    if (place === 0) return step;
-    const head = black ? (place === 1 ? `${number}... ` : "") : `${number}. `;
-    if (black) number += 1;
-    black = !black;
-    return { ...step, text: head + step.san };
-  });
+// Undoes what was done to the game last: moves that came to it, a line that was removed, or another game.
+function undo() {
+  const { tree } = state;
+  clearWay();
+  if (tree.done.length) {
+    tree.done.pop()();
+    go(tree.here);
+  } else if (tree.former) {
+    const { former } = tree;
+    state.tree = former;
+    go(former.here, former);
+  }
+}
+
+function remove() {
+  clearWay();
+  state.tree.remove();
+  go(state.tree.here);
 }
 
 function pick(square) {
@@ -149,24 +151,22 @@ function lay(square) {
   if (found.length > 1) at("moves").querySelector("button").focus();
 }
 
-// The game with these steps behind the position that is shown.
-function gameWith(steps) {
-  return numbered([...state.game.slice(0, state.place + 1), ...steps]);
-}
-
+// Puts steps behind the position that is shown; gives back the last of them.
 function put(steps) {
-  state.game = gameWith(steps);
-  showGame();
+  const last = state.tree.put(state.tree.here, steps);
+  showGame(state.tree, go);
+  return last;
 }
 
 // Plays on through the game, a move at a time, until it ends or is told to stop.
 function playOn(wanted = at("on").getAttribute("aria-pressed") !== "true") {
   clearInterval(state.playing);
-  const plays = wanted && state.going + 1 < state.game.length;
+  const more = () => state.going !== state.tree.line().at(-1);
+  const plays = wanted && more();
   at("on").setAttribute("aria-pressed", String(plays));
   if (!plays) return;
-  go(state.going + 1);
-  state.playing = setInterval(() => (state.going + 1 < state.game.length ? go(state.going + 1) : playOn(false)), PACE);
+  step(1);
+  state.playing = setInterval(() => (more() ? step(1) : playOn(false)), PACE);
 }
 
 function flip() {
@@ -184,8 +184,8 @@ function choose(places) {
 }
 
 const KEYS = {
-  ArrowLeft: () => go(state.going - 1),
-  ArrowRight: () => go(state.going + 1),
+  ArrowLeft: () => step(-1),
+  ArrowRight: () => step(1),
   ArrowUp: () => choose(-1),
   ArrowDown: () => choose(1),
   Escape: () => pick(null),
@@ -194,6 +194,10 @@ const KEYS = {
 };
 
 function onKey(event) {
+  if (event.key === "z" && (event.ctrlKey || event.metaKey) && !event.target.closest("input") && state.tree) {
+    event.preventDefault();
+    undo();
+  }
   if (event.target.closest("input") || event.ctrlKey || event.altKey || event.metaKey) return;
   if (!KEYS[event.key] || !state.position) return;
   event.preventDefault();
@@ -209,10 +213,32 @@ function onCopy(event) {
 
 function onPaste(event) {
   if (event.target.closest?.("input") || !event.clipboardData.getData("text/plain")) return;
-  open(event.clipboardData.getData("text/plain").trim().slice(0, 200));
+  const text = event.clipboardData.getData("text/plain").trim();
+  if (isPgn(text)) openGame(text);
+  else open(text.slice(0, 200));
+}
+
+// Opens a PGN; it is what listens to the buttons about it that can.
+let openGame = null;
+
+function fenOfAddress() {
+  return decodeURIComponent(location.hash.slice(1)).replaceAll("_", " ").slice(0, 200);
 }
 
 function listen() {
+  openGame = listenToKeeping({
+    tree: () => state.tree,
+    name: () => state.told.tables[0].name,
+    replace: (tree) => {
+      clearWay();
+      return go(tree.root, tree);
+    },
+  });
+  at("undo").addEventListener("click", undo);
+  at("remove").addEventListener("click", remove);
+  addEventListener("hashchange", () => {
+    if (fenOfAddress() !== state.position?.fen) open(fenOfAddress());
+  });
   listenToHand(at("board"), {
     canPick: (square) => movesFrom(square).length > 0,
     picked: () => state.picked?.slice(0, 2) ?? null,
@@ -225,8 +251,8 @@ function listen() {
   });
   at("copy").addEventListener("click", () => navigator.clipboard.writeText(state.position.fen).catch(() => at("fen").select()));
   at("flip").addEventListener("click", flip);
-  at("back").addEventListener("click", () => go(state.going - 1));
-  at("forth").addEventListener("click", () => go(state.going + 1));
+  at("back").addEventListener("click", () => step(-1));
+  at("forth").addEventListener("click", () => step(1));
   at("on").addEventListener("click", () => playOn());
   document.addEventListener("keydown", onKey);
   document.addEventListener("copy", onCopy);
@@ -235,7 +261,7 @@ function listen() {
   listenToWays({
     position: () => state.position,
     put,
-    play: (steps) => go(state.place + steps.length, gameWith(steps)),
+    play: (steps) => go(put(steps)),
   });
 }
 
@@ -256,7 +282,7 @@ async function tell() {
   document.title = at("title").textContent = table.name;
   at("table-said").textContent = `${KINDS[table.kind]} of ${table.size} numbers`;
   showText(at("rules"), 0, table.text);
-  at("behind").replaceChildren(...backs.map(rulesOf));
+  at("behind").replaceChildren(...[...backs, ...state.told.beside].map(rulesOf));
   beginPremises(open);
   beginReport(table.size, open, () => state.turned);
 }
@@ -266,7 +292,8 @@ const begin = shown(async () => {
   listenToReport();
   await tell();
   listen();
-  if (state.told.start) await open(state.told.start);
+  const first = fenOfAddress() || state.told.start;
+  if (first) await open(first);
   else refuse("type a FEN to begin");
 });
 

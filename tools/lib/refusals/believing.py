@@ -5,7 +5,7 @@ from lib.refusals.fixtures import A, N, N_BELIEVED, N_BLACK, N_FILE, table
 
 BELIEVED = "FORMATS, Premises: the first of these lines that applies"
 SIDES = "FORMATS, Premises: for White and then for Black the first of these that applies"
-BY_MEN = "PREMISES, Lines that are true by the men"
+BY_MEN = "FORMATS, Premises: the men show a draw or a hold"
 
 
 def premises_of(lines, rules, backs, told, believed, sides):
@@ -86,9 +86,9 @@ def exact_sides():
 CORNER = "freezer 1\ngroup white 1 K:a1\ngroup white 1 R:h1\ngroup black 1 K:g2\n"
 TAKEN, KING_STEPS = "8/{}8/8/8/8/8/K6k w - - 0 1", "8/8/8/8/8/8/6k1/1K5R b - - 0 1"
 BARE, MEN = TAKEN.format("8/"), "line {} true by the men"
-# White's king may take the pawn.
+# White's king may take the pawn, or pass it by.
 PAWN = "freezer 1\ngroup white 1 K:a1\ngroup white 1 R:h1\ngroup black 1 K:g2\ngroup black 1 P:a2\n"
-PAWN_TAKEN = "8/8/8/8/8/8/K5k1/7R b - - 0 1"
+PAWN_STAYS = "8/8/8/8/8/8/pK4k1/7R b - - 0 1"
 ALONE = " ".join(f"count:black:{kind}:0" for kind in "PQRBN")
 
 
@@ -102,10 +102,10 @@ def lone_rooks():
     yield f"white holds if {no_rook}", None
     yield "white holds if always", None
     yield f"black holds if {no_rook}", None
-    yield "draw if !count:white:R:1", BARE
-    yield "draw if on:black:K:h1", BARE
-    yield "draw if !on:white:R:all", BARE
-    yield "black holds if !count:white:R:1", BARE
+    yield "draw if !count:white:R:1", None
+    yield "draw if on:black:K:h1", None
+    yield "draw if !on:white:R:all", None
+    yield "black holds if !count:white:R:1", None
     yield f"white wins if {no_rook}", BARE
     yield f"black wins 9 if {no_rook}", BARE
     yield "draw if count:white:R:0-1", KING_STEPS
@@ -117,32 +117,34 @@ def lone_rooks():
 def further_men():
     """CORNER with further men of White's, an exit line, and where it is needed first."""
     bishop, knight = TAKEN.format("B7/"), TAKEN.format("N7/")
+    bishops = "1B6/B7/8/8/8/8/8/K6k w - - 0 1"
     yield "1 B:a7", "draw if count:white:R:0", None
     yield "1 N:a7", "draw if count:white:R:0", None
     yield "0-1 N:a7", "draw if count:white:R:0", None
-    yield "1 B:a7 N:a7", "draw if count:white:R:0", bishop
+    yield "1 B:a7 N:a7", "draw if count:white:R:0", None
     yield "1 B:a7 N:a7", "draw if count:white:R:0 count:white:B:0", None
     yield "1 B:a7", "black holds if count:white:R:0", bishop
     yield "1 B:a7", "black holds if count:white:R:0 count:white:B:1", bishop
     yield "1 N:a7", "black holds if count:white:R:0", knight
     yield "1 B:a7", "white holds if count:white:R:0", None
-    yield "0-2 B:a7,b8", "draw if count:white:R:0", BARE
+    yield "0-2 B:a7,b8", "draw if count:white:R:0", bishops
     yield "0-2 B:a7,b8", "draw if count:white:R:0 count:white:B:0-1", None
-    yield "0-2 B:a7,b8", "draw if count:white:R:0 !count:white:B:2", BARE
-    yield "2 B:a7,b8", "draw if count:white:R:0", "1B6/B7/8/8/8/8/8/K6k w - - 0 1"
+    yield "0-2 B:a7,b8", "draw if count:white:R:0 !count:white:B:2", None
+    yield "2 B:a7,b8", "draw if count:white:R:0", bishops
     yield "1 Q:a7", "draw if count:white:R:0", TAKEN.format("Q7/")
 
 
 def of_pawns():
-    """PAWN: a side that has pawns must be counted out kind by kind."""
+    """PAWN: only the men that stand outside count, whatever the conditions leave open."""
     yield f"white holds if {ALONE}", None
+    yield "white holds if count:black:P:0", None
     for kind in "PQRBN":
-        yield f"white holds if {ALONE.replace(f'count:black:{kind}:0', 'always')}", PAWN_TAKEN
-    yield "white holds if count:black:P:0", PAWN_TAKEN
+        fen = PAWN_STAYS if kind == "P" else None
+        yield f"white holds if {ALONE.replace(f'count:black:{kind}:0', 'always')}", fen
 
 
 def by_men():
-    """The lines of PREMISES that the men show, and those that they do not."""
+    """Exit lines that the men show at each exit, and those that need belief at one."""
     found = [(CORNER, line, fen) for line, fen in lone_rooks()]
     found += [(f"{CORNER}group white {men}\n", line, fen) for men, line, fen in further_men()]
     found += [(PAWN, line, fen) for line, fen in of_pawns()]

@@ -1,7 +1,7 @@
 //! What the lines of an accepted text say.
 use super::limits::have_values;
 use super::{A, read};
-use crate::expect::{expect_equal, expect_holds};
+use crate::expect::expect_holds;
 use frz_board::{Colour, Kind, Square};
 use frz_sets::{Cond, Forbid, Group, Only, Rules, Test, Value};
 use frz_words::SquareSet;
@@ -63,11 +63,10 @@ forbid white K from b6 to a1,h8 capture
 forbid white R from h1 to h8
 ";
     let rules = behind_a(&rt, rt.alloc(), lines);
-    expect_equal(
+    expect_holds(
         &rt,
-        &rules.forbids.as_slice(),
-        &FORBIDS.as_slice(),
-        "forbids",
+        rules.forbids.as_slice() == FORBIDS.as_slice(),
+        &"forbids",
     );
 }
 

@@ -1,6 +1,6 @@
 use Rattle.std.proofs.Common.{ℕ, subst, sym}
 use Rattle.frz_bits.specs.Words.{IsNext}
-use Rattle.frz_bits.proofs.Next.{none_left, next_is}
+use Rattle.frz_squares.proofs.Lemmas.{none_left, next_is}
 use Rattle.frz_bits.proofs.word.next_square.Goals as goal
 
 pub returns-then-rest-eq0 : goal.returns-then-rest-eq0

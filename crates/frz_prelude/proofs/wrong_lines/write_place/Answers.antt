@@ -1,7 +1,7 @@
 use Rattle.std.proofs.Common.{codes, ◌++◌}
 use Rattle.std.specs.Prelude.{decimal}
 use Rattle.frz_answer.proofs.Lemmas.{failed_first, failed_next, gave_up, took_next, wrote_next}
-use Rattle.frz_prelude.specs.BoundLines.{side_name}
+use Rattle.frz_bound_lines.specs.BoundLines.{side_name}
 use Rattle.frz_prelude.proofs.wrong_lines.write_place.Goals as goal
 
 pub returns-in_err-write_piece : goal.returns-in_err-write_piece

@@ -19,13 +19,13 @@ loop-trial-preserved c =
     record {
       many = ap length items ∙ length_push old b ∙ ap (λ (n : ℕ). n + 1) inv.many;
       each = λ rules links tried k line basis l.
-          (let this = subst (λ (t : Trial). IsTried rules.groups links (get_or rules.exits i line)
+          (let this = subst (λ (t : Trial). IsTried links (get_or rules.exits i line)
           (decided_by rules.exits i (outside_of rules.groups)) t) (sym c.trial-item.is)
           (tried.each i line c.trial-item.result c.loop-trial-test.true) in
           ap (λ (xs : List Basis). get_or xs k basis) items
           ∙ based_more (λ j. basis_of rules links j (get_or rules.exits j line)) old i b inv.many
           (λ j x low. inv.each rules links tried j line x low)
-          (c.basis.ensures rules.groups links (get_or rules.exits i line)
+          (c.basis.ensures links (get_or rules.exits i line)
           (decided_by rules.exits i (outside_of rules.groups)) this) k basis l);
     }
 

@@ -1,5 +1,6 @@
 use Rattle.std.proofs.Common.{◌∙◌, ◌+◌, [], ℕ, List, ap, sym, subst, length, get_or, arith}
 use Rattle.std.proofs.lemmas.List.{length_push}
+use Rattle.frz_sets.specs.Views.{ExitLine}
 use Rattle.frz_premises.specs.declared.trial.Trial.{Trial}
 use Rattle.frz_premises.specs.Trials.{IsTried}
 use Rattle.frz_premises.proofs.Trying.{all_begun, begun_more}
@@ -15,16 +16,16 @@ loop-line-preserved c =
     record {
       many = ap length items ∙ length_push old t ∙ ap (λ (n : ℕ). n + 1) inv.many;
       each = λ links e k line trial l.
-          subst (λ (xs : List Trial). IsTried c.args.groups.now links
+          subst (λ (xs : List Trial). IsTried links
           (get_or c.args.lines.now k line) [] (get_or xs k trial)) (sym items)
-          (begun_more (λ line t. IsTried c.args.groups.now links line [] t) c.args.lines.now old i
+          (begun_more (λ line t. IsTried links line [] t) c.args.lines.now old i
           c.line-item.result t (omega arith) c.line-item.is inv.many (inv.each links e)
-          (c.in_ok-trial.ensures links e) k line trial l);
+          (c.in_ok-trial.ensures links c.line-item.result
+          (sym (ap (λ (l : ExitLine). l.value) c.line.view_is)) e) k line trial l);
     }
 
 pub returns : goal.returns
-returns c rules links same_groups same_lines e =
+returns c rules links same_lines e =
     let inv = c.loop-line.invariant in
     let many = inv.many in
-    all_begun c.args.groups.now c.args.lines.now rules links c.loop-line.trials.items same_groups
-    same_lines (omega arith) (λ k line trial l. inv.each links e k line trial (omega arith))
+    all_begun c.args.lines.now rules links c.loop-line.trials.items same_lines (omega arith) (λ k line trial l. inv.each links e k line trial (omega arith))

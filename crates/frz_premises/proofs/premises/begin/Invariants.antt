@@ -11,5 +11,5 @@ invariant-loop-line l = record {
   many : length l.trials.items ≡ l.line-index;
   each : (links : List Link) → length links ≡ l.tables → (k : ℕ) (line : ExitLine)
       (trial : Trial) → k < l.line-index →
-      IsTried l.groups links (get_or l.lines k line) [] (get_or l.trials.items k trial);
+      IsTried links (get_or l.lines k line) [] (get_or l.trials.items k trial);
 }

@@ -19,7 +19,6 @@ walk-requires-clause-tried g c =
     let links = map link_loaded c.args.backs.now in
     subst (λ (ts : List Trial). AreTried rules links [] ts) (sym c.deref_mut.ensures.value)
     (c.in_ok-trials.ensures rules links
-    (sym (c.as_slice-groups.ensures.value ∙ ap (λ (r : RuleLines). r.groups) c.rules.view_is))
     (sym (c.as_slice-lines.ensures.value ∙ ap (λ (r : RuleLines). r.exits) c.rules.view_is))
     (length-map c.args.backs.now link_loaded))
 

@@ -18,13 +18,6 @@ at c =
 below : (c : In-Some) → (line : ExitLine) × (c.in-Some.i < length c.args.rules.now.exits)
 below c = place_below c.args.rules.now.exits c.args.q.now c.in-Some.i (at c)
 
-pub index-requires : goal.index-requires
-index-requires c =
-    let d = (goal.at.index-requires c).In-Some in
-    let items = ap (λ (r : RuleLines). r.exits) c.rules.view_is in
-    let low = (below d).1 in
-    omega (arith, low, ap length items)
-
 pub offset_bounds-trials-i : goal.offset_bounds-trials-i
 offset_bounds-trials-i c =
     let low = (below (goal.at.offset_bounds-trials-i c).In-Some).1 in
@@ -55,18 +48,10 @@ returns-in-Some c qs tried =
     let i = c.in-Some.i in
     let low = (below d).1 in
     let many = tried.many in
-    let items = ap (λ (r : RuleLines). r.exits) c.rules.view_is in
     one_decides rules links qs q c.args.trials.now tried i (at d) c.note.new.self
     (λ line.
-    (let there : c.index.result.now ≡ get_or rules.exits i line =
-    get_or_read_under c.rules.inside.exits.items i (length c.rules.inside.exits.items)
-    c.index.result.now line c.index.ensures (omega (arith, low, ap length items)) refl
-    ∙ ap (λ (ls : List ExitLine). get_or ls i line) items in
-    let value = ap (λ (l : ExitLine). l.value) (sym there)
-    ∙ sym (ap (λ (l : ExitLine). l.value) c.behind-rules.view_is) in
-    let was = tried.each i line c.index-trials-i.result (omega (arith, low, many)) in
-    c.note.ensures rules.groups (get_or rules.exits i line) (decided_by rules.exits i qs) value
-    was))
+    (let was = tried.each i line c.index-trials-i.result (omega (arith, low, many)) in
+    c.note.ensures (get_or rules.exits i line) (decided_by rules.exits i qs) was))
 
 pub returns-in_default : goal.returns-in_default
 returns-in_default c qs tried =

@@ -40,9 +40,8 @@ returns-in_err-write_other-in-Ok-Going-clause-told g c =
     (sink_of g.O.Sink c.args.out.now) (sink_of g.O.Sink c.write_other.new.out)
     c.from_residual.ensures.0 c.in_err-write_other-in-Ok-Going.ensures.failed
 
-pub returns-in_ok-write_other-in-Ok-Going-clause-told :
-    goal.returns-in_ok-write_other-in-Ok-Going-clause-told
-returns-in_ok-write_other-in-Ok-Going-clause-told g c =
+pub returns-in-Ok-Going-clause-told : goal.returns-in-Ok-Going-clause-told
+returns-in-Ok-Going-clause-told g c =
     let seen = c.in-Ok-Going.ensures.seen in
     denied_other (g.G.NumberedGame.arena c.args.game.now) c.args.side
     (g.E.Entries.codes c.args.entries.now c.args.side) c.args.number c.in-Ok-Going.mover

@@ -13,6 +13,7 @@ returns c =
     let next : IsNext c.men.result 0 c.in_ok-king.king = c.in_ok-king.ensures in
     let k = c.in_ok-king.king in
     record {
+      there = c.requires;
       bare_is = c.put-bare.ensures;
       safe = ap (is_in_check c.put-bare.result) (sym c.turn.ensures) ∙ sym c.is_in_check.ensures
           ∙ c.if-is_in_check.false;

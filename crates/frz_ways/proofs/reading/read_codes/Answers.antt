@@ -17,3 +17,9 @@ loop-arm-preserved g c = record {
   faults = grind (arith, common_steps);
   wants = grind (arith, common_steps);
 }
+
+pub returns-in_err-code-clause-asked : goal.returns-in_err-code-clause-asked
+returns-in_err-code-clause-asked g c = grind (arith, common_steps)
+
+pub returns-in_err-code-clause-calls : goal.returns-in_err-code-clause-calls
+returns-in_err-code-clause-calls g c = grind (arith, common_steps)

@@ -64,7 +64,7 @@ returns c = λ rules side codes p bound input table member is.
               λ e. c.holds_in_lines.ensures.cut player LINE_LIMIT refl input left (0, start) plies
                   held (to Cut e),
             ));
-        exit = λ v e. c.ways_are_games.ensures.exit rules value Codes side kept start input plies v
-            left p (to (Exit v) e) at;
+        stands = c.ways_end_in_chess.ensures rules value Codes side kept start input plies end left p
+            line.3 at;
       },
     )

@@ -8,11 +8,12 @@ use Rattle.frz_sets.specs.Views.{GroupLine, RuleLines}
 use Rattle.frz_store.specs.Told.{sink_of}
 use Rattle.frz_exits.specs.Books.{value_by}
 use Rattle.frz_graph.specs.EntryCodes.{of_side}
-use Rattle.frz_game.specs.Games.{game_of}
+use Rattle.frz_game.specs.Games.{game_of, graph_by}
 use Rattle.frz_game.specs.Numbers.{numbers_by}
 use Rattle.frz_index.specs.Members.{Num}
 use Rattle.frz_ways.specs.declared.opponent.Opponent.TheVariants.{Codes}
 use Rattle.frz_ways.specs.PlayLoaded.{PlaysLoaded}
+use Rattle.frz_ways.specs.Ways.{way_player}
 use Rattle.frz_ways.proofs.Lemmas.{by_table, turn_after}
 use Rattle.library_example.proofs.KeptCodes.{number_inside}
 use Rattle.library_example.proofs.LinePlayed.{line_played}
@@ -73,3 +74,6 @@ returns-clause-line g c = λ bound member is.
     ((game.ensures.book ∙ c.new-book.ensures) ∙ sym game.ensures.rules)
     (game.ensures.rules ∙ c.self.view_is) played.6) played.3 play.ensures.kind play.ensures.settled
     (λ input. c.bounds_kept_in_lines.ensures rules side codes p bound input table member is)
+    (λ input plies end left way. (c.ways_by_cases.ensures.ways
+    (way_player (graph_by rules (value_by rules)) Codes side (λ k. codes)) 0 input left
+    (0, Num rules.groups p) plies end).1 way)

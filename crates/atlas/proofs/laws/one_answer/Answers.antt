@@ -1,6 +1,0 @@
-use Rattle.atlas.proofs.Answering.{lawful_of}
-use Rattle.atlas.proofs.laws.one_answer.Goals as goal
-
-pub returns : goal.returns
-returns c = λ words.
-    lawful_of c.one_line_answer.ensures c.one_play_answer.ensures c.why_lawful.ensures words

@@ -1,5 +1,0 @@
-use Rattle.freezer.proofs.run_uncounted.Goals as goal
-
-pub returns-clause-outcome : goal.returns-clause-outcome
-returns-clause-outcome g c =
-    (c.freezer.new.steps, rw c.new-steps.ensures at c.freezer.ensures.outcome)

@@ -1,0 +1,12 @@
+pub mod Traces
+pub mod Binding
+pub mod Asked
+pub mod Covering
+pub mod Laying
+pub mod Reading
+pub mod Over
+pub mod Loops
+pub mod Later
+pub mod Costs
+pub mod Bounds
+pub mod Lemmas

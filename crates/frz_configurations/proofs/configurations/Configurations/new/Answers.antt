@@ -1,0 +1,11 @@
+use Rattle.std.proofs.Common.{◌∙◌, ap, subst, sym, List}
+use Rattle.frz_sets.specs.Views.{GroupLine, RuleLines}
+use Rattle.frz_index.specs.Kept.{AreNumberable}
+use Rattle.frz_index.proofs.Lemmas.{numberable}
+use Rattle.frz_configurations.proofs.configurations.Configurations.new.Goals as goal
+
+pub radices_of-requires : goal.radices_of-requires
+radices_of-requires c =
+    subst (λ (gs : List GroupLine). AreNumberable gs)
+    (sym (c.deref.ensures.value ∙ ap (λ (r : RuleLines). r.groups) c.rules.view_is))
+    (numberable c.args.rules.now c.requires)

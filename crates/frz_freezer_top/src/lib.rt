@@ -1,0 +1,12 @@
+//! All of the program `freezer` but the real objects outside: its top call `freezer`, the words of its commands,
+//! and the laws on its calls.
+#![tactic(auto)]
+
+pub mod laws;
+mod once;
+pub mod sure;
+mod top;
+mod verb;
+
+pub use once::run_once;
+pub use top::freezer;

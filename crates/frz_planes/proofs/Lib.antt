@@ -1,0 +1,4 @@
+mod Rows
+mod Shifts
+mod Apart
+mod Pairs

@@ -1,0 +1,7 @@
+use Rattle.std.proofs.Common.{get_or, bit_and, bit_or}
+use Rattle.frz_planes.proofs.Rows.{AreMade}
+use Rattle.frz_planes.proofs.plane.Plane.join_common.Given as goal
+
+abbrev pub invariant-loop-i : goal.invariant-loop-i
+invariant-loop-i l =
+    AreMade (λ k v. bit_or v (bit_and (get_or l.one-inside.0 k 0) (get_or l.other-inside.0 k 0))) l.i l.initial.row-items l.row-items

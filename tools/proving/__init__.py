@@ -1,0 +1,1 @@
+"""From a FEN and a claim to rules texts whose tables prove it."""

@@ -1,0 +1,174 @@
+"""The row of cells: each is built over those before it to which it may lead. The last has the first position."""
+
+from __future__ import annotations
+
+from dataclasses import dataclass, field
+from typing import NamedTuple, Optional
+
+from lib.chess import other
+from proving.board import FORWARD, PAWN_HITS, Position
+from proving.cells import Cell
+from proving.groups import COLOUR, Slot
+from proving.tables import HOLD, Table, Workshop, is_safe, is_win
+from proving.words import SIDES, head
+
+MANY_PLIES = 3 + 2 * 10 ** 9
+LOST, WON = 3, 2
+
+
+class Spot(NamedTuple):
+    """Where a position is: the place of a cell in the row and the number there; or by the men alone (BY_THE_MEN)."""
+
+    index: int
+    number: int
+
+
+BY_THE_MEN = Spot(-1, 0)
+
+
+@dataclass
+class Built:
+    """A table, what it was made of, and its version."""
+
+    table: Table
+    made_of: tuple
+    version: int
+
+
+@dataclass
+class Row:
+    own: str  # the side that is asked about
+    claim: str
+    shop: Workshop
+    cells: list[Cell] = field(default_factory=list)
+    built: dict[str, Built] = field(default_factory=dict)  # by the name of the file
+    versions: int = 0
+    named: int = 0
+    known_cells: list[Cell] = field(default_factory=list, repr=False)  # for which known_behind tells what lies behind
+    known_behind: dict[int, list[int]] = field(default_factory=dict, repr=False)
+
+    def new_name(self) -> str:
+        return f"c{self.named + 1:02d}"
+
+    def index(self, name: str) -> int:
+        return next(i for i, cell in enumerate(self.cells) if cell.name == name)
+
+    def insert(self, index: int, cell: Cell) -> None:
+        self.cells.insert(index, cell)
+        self.named += 1
+
+    def behind(self, index: int) -> list[int]:
+        """The cells to which this one may lead, and those to which these may, in order."""
+        reached: set[int] = set()
+        for j in range(index - 1, -1, -1):
+            if any(may_lead(self.cells[i], self.cells[j]) for i in (index, *reached)):
+                reached.add(j)
+        return sorted(reached)
+
+    def plain_text(self, cell: Cell) -> str:
+        """The text that proves: with the one exit line that is true by the men, that a bare king mates nobody. A win
+        may lie behind it, so only the text of a hold has it."""
+        words = bare_words(cell, other(self.own))
+        lines = [f"exit {COLOUR[self.own]} holds if {words}"] if words and self.claim == "hold" else []
+        asked = f"Asked: does {SIDES[self.own]} {'win' if self.claim == 'win' else 'not lose'}?"
+        return cell.text(lines, head([cell.about, asked]))
+
+    def ensure(self, index: int) -> Table:
+        """The plain table of the cell, built where it or one behind it has changed."""
+        return self.build(index, self.cells[index].name, self.plain_text(self.cells[index]))
+
+    def build(self, index: int, name: str, text: str, backs: Optional[list[Built]] = None) -> Table:
+        """The table of the text over the plain tables behind the cell, or over these."""
+        if backs is None:
+            for j in self.behind(index):
+                self.ensure(j)
+            backs = [self.built[self.cells[j].name] for j in self.behind(index)]
+        made_of = text, tuple(back.version for back in backs)
+        kept = self.built.get(name)
+        if kept is None or kept.made_of != made_of:
+            self.versions += 1
+            self.built[name] = kept = Built(self.shop.build(name, text, [back.table for back in backs]), made_of, self.versions)
+        return kept.table
+
+    def find(self, index: int, position: Position) -> Optional[Spot]:
+        """Where a position is, seen from a cell: in itself, or in the first behind it."""
+        number = self.cells[index].number(position)
+        if number is not None:
+            return Spot(index, number)
+        if self.claim == "hold" and is_bare(position, other(self.own)):
+            return BY_THE_MEN
+        for j in self.behind_of(index):
+            number = self.cells[j].number(position)
+            if number is not None:
+                return Spot(j, number)
+        return None
+
+    def behind_of(self, index: int) -> list[int]:
+        """As `behind`, kept until the cells change."""
+        if self.known_cells != self.cells:
+            self.known_cells, self.known_behind = list(self.cells), {}
+        if index not in self.known_behind:
+            self.known_behind[index] = self.behind(index)
+        return self.known_behind[index]
+
+    def code(self, spot: Spot, side: str, name: str = "") -> int:
+        """The plain code of a side there, or that of the table of this name."""
+        if spot == BY_THE_MEN:
+            return HOLD if side == self.own else LOST
+        return self.built[name or self.cells[spot.index].name].table.code(side, spot.number)
+
+    def seen(self, spot: Spot, side: str, index: int, name: str = "") -> int:
+        """The code as it counts for a move in the table of a cell: one of a cell behind counts no plies."""
+        if spot.index == index:
+            return self.code(spot, side, name)
+        code = self.code(spot, side)
+        return WON if is_win(code) else HOLD if is_safe(code) else LOST
+
+
+def kind_range(cell: Cell, side: str, kind: str) -> tuple[int, int]:
+    """The least and the greatest number of such men in the cell."""
+    slots = [slot for slot in cell.slots.values() if slot.side == side]
+    sure = sum(slot.is_sure and all(k == kind for k, _ in slot.states) for slot in slots)
+    return sure, sum(bool(slot.squares(kind)) for slot in slots)
+
+
+def may_lead(cell: Cell, target: Cell) -> bool:
+    """May a move out of the cell come to a position of the other? False only where it surely may not."""
+    for side in "wb":
+        for kind in "PNBRQ":
+            here, there = kind_range(cell, side, kind), kind_range(target, side, kind)
+            if there[0] > here[1] + 1 or there[1] < here[0] - 1:
+                return False
+    missing = [slot for slot in target.slots.values() if needs_pawn(slot) and not slot.squares("P") & pawn_squares(cell, slot.side)]
+    if len(missing) > 1:  # one man moves at a time
+        return False
+    return all(slot.squares("P") & arrivals(cell, slot.side) for slot in missing)
+
+
+def needs_pawn(slot: Slot) -> bool:
+    return slot.is_sure and all(kind == "P" for kind, _ in slot.states)
+
+
+def pawn_squares(cell: Cell, side: str) -> set[int]:
+    return {s for slot in cell.slots.values() if slot.side == side for s in slot.squares("P")}
+
+
+def arrivals(cell: Cell, side: str) -> set[int]:
+    """Where a pawn of the side may come by one move: ahead, or where a man of the opponent's may be taken."""
+    here, step = pawn_squares(cell, side), FORWARD[side]
+    taken = {s for slot in cell.slots.values() if slot.side != side and not slot.is_king for _, s in slot.states}
+    passed = {s + step for s in pawn_squares(cell, other(side))}
+    hits = {to for s in here for to in PAWN_HITS[side][s]}
+    return {s + step * n for s in here for n in (1, 2)} | hits & (taken | passed)
+
+
+def bare_words(cell: Cell, side: str) -> str:
+    """The conditions that leave the side its king alone."""
+    kinds = {kind for slot in cell.slots.values() if slot.side == side for kind, _ in slot.states} - {"K"}
+    kinds = set("QRBNP") if "P" in kinds else kinds
+    return " ".join(f"count:{COLOUR[side]}:{kind}:0" for kind in "QRBNP" if kind in kinds)
+
+
+def is_bare(position: Position, side: str) -> bool:
+    men = "QRBNP" if side == "w" else "qrbnp"
+    return not any(man in men for man in position.board)
