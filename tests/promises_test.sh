@@ -1,29 +1,28 @@
 # shellcheck shell=bash
-# docs/proofs/promises.md names the calls and the clauses that stand in the crates, and leaves none out.
+# docs/proofs/promises.md names the calls and clauses that stand in the crates, and leaves none out; and the tools
+# that print what a definition rests on, and what the repository has.
 
-test_the_promises_are_those_of_the_crates() {
-    run python3 -B "$repository/tools/check-promises"
-    is "$status $out" '0 0 differences' 'what the page and the crates do not share'
-}
-
-# A toy repository whose page names a clause that is gone, and leaves a law out.
-test_a_promise_that_nothing_keeps_is_named() {
-    mkdir -p "$room/toy/tools/lib" "$room/toy/docs/proofs" "$room/toy/crates/a/src" "$room/toy/crates/a/specs"
-    cp "$repository/tools/check-promises" "$room/toy/tools"
-    cp "$repository/tools/lib/contracts.py" "$room/toy/tools/lib"
-    printf 'freezer: a\na:\n' > "$room/toy/crates.txt"
-    printf '* *::new\n' > "$room/toy/tools/lib/promises.txt"
-    cat > "$room/toy/crates/a/src/lib.rt" <<'TOY'
+# A toy repository of two crates, lower and upper; the page names a clause that is gone, and leaves a law out.
+make_book() {
+    book=$room/book
+    mkdir -p "$book"/{tools/lib,docs/proofs,tests,crates/{lower,upper}/{src,specs,proofs,must-fail}}
+    cp "$repository"/tools/{check-promises,definitions,facts} "$book/tools"
+    cp "$repository"/tools/lib/{contracts,crates,definitions}.py "$book/tools/lib"
+    printf '# a toy\nfreezer: upper\nupper: lower arrayvec\nlower:\natlas:\nlibrary_example:\n' > "$book/crates.txt"
+    printf '# accessors\n* *::new\n' > "$book/tools/lib/promises.txt"
+    printf '# Promises\n\n## `upper`\n\n| | |\n|---|---|\n| `Set::add: has, gone` `Means: says` | it |\n' \
+        > "$book/docs/proofs/promises.md"
+    cat > "$book/crates/upper/src/lib.rt" <<'TOY'
 pub mod laws;
 mod set;
 pub use set::Set;
 TOY
-    cat > "$room/toy/crates/a/src/laws.rt" <<'TOY'
+    cat > "$book/crates/upper/src/laws.rt" <<'TOY'
 pub fn one_set()
     ensures { (a b : Set) → a ≡ b }
 {}
 TOY
-    cat > "$room/toy/crates/a/src/set.rt" <<'TOY'
+    cat > "$book/crates/upper/src/set.rt" <<'TOY'
 impl<A: Order> Set<A> {
     pub fn new() -> Set<A>
         ensures empty { result ≡ [] }
@@ -34,6 +33,7 @@ impl<A: Order> Set<A> {
     {}
 
     pub fn add(&mut self, a: A)
+        requires room { ⊤ }
         ensures has { Has self.new a }
         ensures keeps { self.old ⊆ self.new }
     {}
@@ -43,9 +43,93 @@ impl<A: Order> Set<A> {
     {}
 }
 TOY
-    printf '# Promises\n\n## `a`\n\n| | |\n|---|---|\n| `Set::add: has, gone` | it |\n' > "$room/toy/docs/proofs/promises.md"
-    run python3 -B "$room/toy/tools/check-promises"
+    cat > "$book/crates/upper/specs/Meaning.antt" <<'TOY'
+-- What an answer means.
+use Rattle.lower.specs.Words.{even, odd as not_even}
+
+-- a record of what is said
+pub record Means (n : ℕ) : Type 0 where
+  pub says : twice n ≡ n
+  -- and its number is even
+  pub number : even n ≡ true
+
+abbrev pub twice : ℕ → ℕ
+twice n = n + n
+
+abbrev pub unused : ℕ → Bool
+unused n = not_even n
+TOY
+    cat > "$book/crates/lower/specs/Words.antt" <<'TOY'
+-- Words on numbers.
+
+unfoldable pub even : ℕ → Bool
+even zero = true
+even (suc n) = odd n
+
+abbrev pub odd : ℕ → Bool
+odd zero = false
+odd (suc n) = even n
+
+abbrev pub number : ℕ
+number = zero
+TOY
+}
+
+test_the_promises_are_those_of_the_crates() {
+    run "$repository/tools/check-promises"
+    is "$status $out" '0 0 differences' 'what the page and the crates do not share'
+}
+
+test_a_promise_that_nothing_keeps_is_named() {
+    make_book
+    run "$book/tools/check-promises"
     is "$status $out" "1 no clause of Set::add: gone
-no row: a: laws::one_set
+no row: upper: laws::one_set
 2 differences" 'what was said'
+    sed -i 's/gone/keeps/; s/Means: says/one_set/' "$book/docs/proofs/promises.md"
+    echo 'lower *::old' >> "$book/tools/lib/promises.txt"
+    run "$book/tools/check-promises"
+    is "$status $out" "1 no call for this line of promises.txt: lower *::old
+1 differences" 'what was said of a line that nothing needs'
+}
+
+test_what_a_definition_rests_on_is_printed() {
+    make_book
+    run "$book/tools/definitions" Means
+    is "$status $out" "0 lower Words: even, odd
+upper Meaning: Means, twice
+types and constants:
+4 definitions in 2 modules, 13 lines with comments" 'the names'
+    run "$book/tools/definitions" --whole Means
+    has "$out" "== crates/lower/specs/Words.antt
+
+-- Words on numbers.
+
+unfoldable pub even"
+    has "$out" "-- a record of what is said
+pub record Means (n : ℕ) : Type 0 where
+  pub says : twice n ≡ n
+  -- and its number is even
+  pub number"
+    has_not "$out" unused
+    run "$book/tools/definitions" gone
+    is "$status $err" '1 gone: no definition of specs/ has this name' 'the refusal'
+    sed 's/even/odd_one/g' "$book/crates/lower/specs/Words.antt" > "$book/crates/lower/specs/More.antt"
+    run "$book/tools/definitions" odd
+    is "$status $err" '1 odd: which of lower/More/odd, lower/Words/odd' 'the question'
+    run "$book/tools/definitions" More/odd
+    has "$out" 'lower More: odd_one, odd'
+}
+
+test_what_the_repository_has_is_counted() {
+    make_book
+    mkdir -p "$book/evidence/must-fail/upper"
+    touch "$book/crates/lower/must-fail/one.edit" "$book/evidence/must-fail/upper/two.edit"
+    printf '#[test]\nfn a() {}\n' >> "$book/crates/lower/src/tests.rt"
+    printf 'test_a() {\n}\ntest_b() { :; }\n' > "$book/tests/a_test.sh"
+    run "$book/tools/facts"
+    has "$out" "$(printf '%-24s%9s%9s%9s' upper 14 25 0)"
+    has "$out" 'crates: 5
+must-fail edits: 1 in the gate, 1 in evidence/
+tests: 1 in the crates, 2 of the scripts'
 }

@@ -9,8 +9,9 @@ Place = tuple[str, str, str]  # crate, module, name
 
 
 class Module(NamedTuple):
-    """A module of specs/: where the names that it imports stand, and the text of its own, in its order."""
+    """A module of specs/: what its first lines say, where its imported names stand, and its texts in their order."""
 
+    about: str
     imports: dict[str, Place]
     texts: dict[str, str]
 
@@ -49,7 +50,8 @@ def read_module(file: Path) -> Module:
         comment = []
         if current is not None:
             current.append(line)
-    return Module(imports, {name: "\n".join(lines).strip("\n") for name, lines in texts.items()})
+    about = "\n".join(line for line in text.split("\n\n")[0].split("\n") if line.startswith("--"))
+    return Module(about, imports, {name: "\n".join(lines).strip("\n") for name, lines in texts.items()})
 
 
 class Specs:
