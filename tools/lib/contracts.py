@@ -4,7 +4,8 @@ from pathlib import Path
 from typing import Iterator, NamedTuple, Optional
 
 HEAD = re.compile(r"^( *)(pub )?(?:unsafe |const )?fn (\w+)")
-CLAUSE = re.compile(r"^\s*(?:ensures) (?:(\w+) )?\{", re.MULTILINE)
+CLAUSE = re.compile(r"^\s*ensures (?:(\w+) )?\{", re.MULTILINE)
+BOUNDS = {"below", "bound", "fits", "high", "low", "on_board", "short", "shorter"}  # clauses that limit what comes
 EQUATION = re.compile(r"\s*(?:result|\w+\.new)(?:\.\w+)* ≡ |\s*WroteText ")
 
 
@@ -13,7 +14,7 @@ class Call(NamedTuple):
 
     path: str
     clauses: tuple[str, ...]
-    plain: bool  # one clause without a name, an equation for what it gives
+    plain: bool  # an equation for what it gives, or several, and bounds of it
     of_trait: Optional[str]  # the trait that an `impl` implements
 
 
@@ -71,9 +72,10 @@ def handed_on(text: str) -> dict[str, set[str]]:
 def calls_in(module: str, file: Path, whole: bool, names: set[str], types: set[str]) -> Iterator[Call]:
     """The public calls of one file, of which all or some names are public, and methods of these types."""
     for owner, name, public, contract in functions_of(file):
-        clauses = tuple(found or "" for found in CLAUSE.findall(contract))
-        first = CLAUSE.search(contract)
-        plain = clauses == ("",) and first is not None and bool(EQUATION.match(contract, first.end()))
+        found = list(CLAUSE.finditer(contract))
+        clauses = tuple(clause[1] or "" for clause in found)
+        equations = [bool(EQUATION.match(contract, clause.end())) for clause in found if clause[1] not in BOUNDS]
+        plain = bool(equations) and all(equations)
         if owner is None:
             if public and (whole or name in names):
                 yield Call(f"{module}::{name}".strip(":"), clauses, plain, None)
