@@ -80,6 +80,29 @@ test_the_promises_are_those_of_the_crates() {
     is "$status $out" '0 0 differences' 'what the page and the crates do not share'
 }
 
+# The definitions that the page on reading has printed are there, each with what it rests on.
+test_the_definitions_that_a_sceptic_reads_are_there() {
+    local name names
+    mapfile -t names < <(sed -n 's,^tools/definitions --whole \(.*\)$,\1,p' "$repository/docs/proofs/reading.md")
+    [ "${#names[@]}" -gt 2 ] || fail "few definitions: ${names[*]}"
+    for name in "${names[@]}"; do
+        run "$repository/tools/definitions" "$name"
+        is "$status" 0 "the status at $name, with $err"
+        has "$out" 'frz_fide Legal: '
+        has "$out" 'frz_arena Chess: '
+    done
+}
+
+# The drawing of the floors has each crate but those of tests and examples; it leaves out frz_.
+test_the_drawing_of_the_floors_has_each_crate() {
+    local crate drawn
+    drawn=$(awk '/^```/ { if (seen) exit; seen = 1; next } seen' "$repository/docs/developers/design.md" | grep -oE '[a-z_]+')
+    while read -r crate; do
+        case "$crate" in frz_worked* | *_examples | library_example | test_tables) continue ;; esac
+        grep -qx "${crate#frz_}" <<< "$drawn" || grep -qx "${crate#frz_commands}" <<< "$drawn" || fail "$crate is not drawn"
+    done < <(sed -n 's/^\([a-z_]*\):.*/\1/p' "$repository/crates.txt")
+}
+
 test_a_promise_that_nothing_keeps_is_named() {
     make_book
     run "$book/tools/check-promises"
