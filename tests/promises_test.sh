@@ -83,7 +83,7 @@ test_the_promises_are_those_of_the_crates() {
 # The definitions that the page on reading has printed are there, each with what it rests on.
 test_the_definitions_that_a_sceptic_reads_are_there() {
     local name names
-    mapfile -t names < <(sed -n 's,^tools/definitions --whole \(.*\)$,\1,p' "$repository/docs/proofs/reading.md")
+    mapfile -t names < <(sed -n 's,^tools/definitions .* \([^ ]*\)$,\1,p' "$repository/docs/proofs/reading.md")
     [ "${#names[@]}" -gt 2 ] || fail "few definitions: ${names[*]}"
     for name in "${names[@]}"; do
         run "$repository/tools/definitions" "$name"
@@ -135,6 +135,10 @@ pub record Means (n : ℕ) : Type 0 where
   -- and its number is even
   pub number"
     has_not "$out" unused
+    run "$book/tools/definitions" --but even Means
+    is "$status $out" "0 upper Meaning: Means, twice
+types and constants:
+2 definitions in 1 modules, 7 lines with comments" 'the names without those of another'
     run "$book/tools/definitions" gone
     is "$status $err" '1 gone: no definition of specs/ has this name' 'the refusal'
     sed 's/even/odd_one/g' "$book/crates/lower/specs/Words.antt" > "$book/crates/lower/specs/More.antt"
