@@ -66,9 +66,9 @@ compose_pages() {
     put_link ../../share/freezer/examples lib/freezer/examples
     put_link ../../freezer/examples share/doc/freezer/examples
     put 644 README.md share/doc/freezer/README.md
-    for file in "$top"/docs/*; do
-        put 644 "docs/${file##*/}" "share/doc/freezer/docs/${file##*/}"
-    done
+    while read -r file; do
+        put 644 "docs/$file" "share/doc/freezer/docs/$file"
+    done < <(cd "$top/docs" && find . -type f -printf '%P\n')
     if ! command -v pandoc >/dev/null; then
         tell "no man pages: pandoc makes them (Debian's package pandoc)"
         return
