@@ -116,6 +116,19 @@ no row: upper: laws::one_set
 1 differences" 'what was said of a line that nothing needs'
 }
 
+test_the_calls_of_a_crate_are_listed() {
+    make_book
+    sed -i 's,^    pub fn add,    /// Puts a\n    /// thing in.\n&,' "$book/crates/upper/src/set.rt"
+    run "$book/tools/check-promises" --list upper
+    is "$status $out" "0 laws::one_set: one clause
+Set::new: empty
+Set::size: one clause
+Set::add: has, keeps
+    Puts a thing in." 'the calls'
+    run "$book/tools/check-promises" --list gone
+    is "$status $err" '1 gone: no crate of crates.txt' 'the refusal'
+}
+
 test_what_a_definition_rests_on_is_printed() {
     make_book
     run "$book/tools/definitions" Means

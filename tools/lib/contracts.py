@@ -13,6 +13,7 @@ class Call(NamedTuple):
     """A public call or law: its path in the crate, such as `laws::few_moves` or `Set::at`, and its clauses."""
 
     path: str
+    about: str  # its comment
     clauses: tuple[str, ...]
     plain: bool  # an equation for what it gives, or several, and bounds of it
     of_trait: Optional[str]  # the trait that an `impl` implements
@@ -46,8 +47,18 @@ def contract_of(lines: list[str], indent: int) -> str:
     return "\n".join(taken)
 
 
-def functions_of(file: Path) -> Iterator[tuple[Optional[tuple[str, Optional[str], bool]], str, bool, str]]:
-    """Each function of a file: whose it is, its name, whether it is public, and its contract."""
+def comment_above(lines: list[str]) -> str:
+    """The comment in which these lines end."""
+    taken: list[str] = []
+    for line in reversed(lines):
+        if not line.lstrip().startswith("///"):
+            break
+        taken.insert(0, line.strip(" /"))
+    return " ".join(taken)
+
+
+def functions_of(file: Path) -> Iterator[tuple[Optional[tuple[str, Optional[str], bool]], str, bool, str, str]]:
+    """Each function of a file: whose it is, its name, whether it is public, its contract and its comment."""
     owner = None
     lines = file.read_text(encoding="utf-8").split("\n")
     for place, line in enumerate(lines):
@@ -57,7 +68,8 @@ def functions_of(file: Path) -> Iterator[tuple[Optional[tuple[str, Optional[str]
         head = HEAD.match(line)
         if head:
             contract = contract_of(lines[place + 1 :], len(head.group(1)))
-            yield (owner if head.group(1) else None), head.group(3), bool(head.group(2)), contract
+            about = comment_above(lines[:place])
+            yield (owner if head.group(1) else None), head.group(3), bool(head.group(2)), contract, about
 
 
 def handed_on(text: str) -> dict[str, set[str]]:
@@ -71,16 +83,16 @@ def handed_on(text: str) -> dict[str, set[str]]:
 
 def calls_in(module: str, file: Path, whole: bool, names: set[str], types: set[str]) -> Iterator[Call]:
     """The public calls of one file, of which all or some names are public, and methods of these types."""
-    for owner, name, public, contract in functions_of(file):
+    for owner, name, public, contract, about in functions_of(file):
         found = list(CLAUSE.finditer(contract))
         clauses = tuple(clause[1] or "" for clause in found)
         equations = [bool(EQUATION.match(contract, clause.end())) for clause in found if clause[1] not in BOUNDS]
         plain = bool(equations) and all(equations)
         if owner is None:
             if public and (whole or name in names):
-                yield Call(f"{module}::{name}".strip(":"), clauses, plain, None)
+                yield Call(f"{module}::{name}".strip(":"), about, clauses, plain, None)
         elif (owner[2] or public or owner[1]) and (whole or owner[0] in types or owner[1]):
-            yield Call(f"{owner[0]}::{name}", clauses, plain, owner[1])
+            yield Call(f"{owner[0]}::{name}", about, clauses, plain, owner[1])
 
 
 def calls_of(crate: Path) -> list[Call]:
