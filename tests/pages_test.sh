@@ -25,5 +25,5 @@ test_faults_of_pages_are_seen() {
     done
     yes 'A page that is too large.' | head -n 1000 > book/docs/large.md
     run "$repository/tools/check-pages" book
-    has "$out" "docs/large.md: 26000 bytes, and 20000 at most"
+    has "$out" "docs/large.md: 26000 bytes, and 20480 at most"
 }
