@@ -2,7 +2,7 @@
 """Writes a table of the former format for a rules text: bench/former.py RULES FILE.
 
 Every code is 0, so only the time of `migrate` is of interest. The sizes are counted from the text
-alone, by the definition in docs/FORMATS.md.
+alone, by the definition in docs/users/formats.md.
 """
 import struct
 import sys

@@ -73,8 +73,8 @@ compose_pages() {
         tell "no man pages: pandoc makes them (Debian's package pandoc)"
         return
     fi
-    page_of_commands freezer "solve blocked chess endings, by tables that are proved right" COMMANDS | man_page freezer 1
-    page_of_commands atlas "tables of chess endings over several others, and reasons" ATLAS | man_page atlas 1
+    page_of_commands freezer "solve blocked chess endings, by tables that are proved right" | man_page freezer 1
+    page_of_commands atlas "tables of chess endings over follow-up tables, and reasons" | man_page atlas 1
     page_of_rules | man_page freezer-rules 5
     page_of_prove | man_page freezer-prove 1
     for file in "${tools_for_users[@]}"; do
@@ -97,8 +97,8 @@ man_page() {
 
 name_of_page() { printf '## NAME\n\n%s - %s\n\n' "$1" "$2"; }
 
-# The page $3 of docs/ on the program $1 without its title, its list of commands, which comes first, and what
-# is about the repository alone.
+# The page on the commands, for the program $1, without its title, its list of commands, which comes first, and
+# what is about the repository alone.
 page_of_commands() {
     name_of_page "$1" "$2"
     # shellcheck disable=SC2016 # marks of a block
@@ -107,21 +107,21 @@ page_of_commands() {
         /^```/ { fenced = !fenced; if (blocks < 2) { blocks += 1; next } }
         NR == 1 || blocks == 1 || /^The first call proves and builds/ { next }
         !fenced && /^## / { skips = /^## (Without a proof|Installed)/ }
-        !skips' "$top/docs/$3.md"
+        !skips' "$top/docs/users/commands.md"
 }
 
 page_of_rules() {
     name_of_page freezer-rules "rules texts of Freezer"
     printf '## DESCRIPTION\n'
-    sed 1d "$top/docs/RULES.md"
+    sed 1d "$top/docs/users/rules.md"
     printf '\n## THE LANGUAGE, EXACTLY\n'
-    awk '/^## / { on = $0 == "## Rules"; next } on' "$top/docs/FORMATS.md"
+    awk '/^## / { on = $0 == "## Rules"; next } on' "$top/docs/users/formats.md"
 }
 
 page_of_prove() {
     name_of_page freezer-prove "prove what can be proved of a chess position"
     printf '## DESCRIPTION\n'
-    sed 1d "$top/docs/PROVE.md"
+    sed 1d "$top/docs/users/guide.md"
 }
 
 # What tools/README.md says of a tool; its own first line names it.
@@ -130,7 +130,7 @@ page_of_tool() {
     about=$(sed -n '2s/^"""\(.*[^.]\)\.*$/\1/p' "$top/tools/$1")
     name_of_page "freezer-$1" "${about,}"
     printf '## DESCRIPTION\n'
-    awk -v tool="$1" '/^## / { on = $0 == "## `" tool "`"; next } on' "$top/tools/README.md"
+    awk -v tool="$1" '/^##? / { on = $0 == "## `" tool "`"; next } on' "$top/tools/README.md"
 }
 
 # With which kit the programs were proved, and at which commit.

@@ -2,7 +2,7 @@
 # Tells how long a command over files has worked, while it runs, and how long it is expected to work.
 # Sourced by build/program.sh.
 
-# Nanoseconds a number, by docs/SPEED.md: the sets as large as a set may be.
+# Nanoseconds a number, by docs/developers/speed.md: the sets as large as a set may be.
 to_build=2200
 to_check=900
 

@@ -112,14 +112,10 @@ test_a_file_of_another_kind_is_told() {
     has "$err" "chained is a table of freezer chain: build its text by atlas build"
 }
 
-test_the_pages_have_the_lines_of_use() {
-    local page name
-    for page in COMMANDS:freezer ATLAS:atlas; do
-        name=${page#*:}
-        diff <(grep "^$name " "$repository/build/usage.txt") \
-            <(awk '/^```/ { if (seen) exit; seen = 1; next } seen' "$repository/docs/${page%:*}.md" | sed 's,^\./,,') ||
-            fail "docs/${page%:*}.md has other lines than build/usage.txt"
-    done
+test_the_page_of_commands_has_the_lines_of_use() {
+    diff "$repository/build/usage.txt" \
+        <(awk '/^```/ { if (seen) exit; seen = 1; next } seen' "$repository/docs/users/commands.md" | sed 's,^\./,,') ||
+        fail "docs/users/commands.md has other lines than build/usage.txt"
 }
 
 # What bash offers behind these words.

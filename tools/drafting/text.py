@@ -101,7 +101,7 @@ class Draft:
             if self.side == colour:
                 continue
             lines += [f"# {text}" for text in self.left_out(colour, side)]
-        return ["# Left out, each a way out that counts against the other side:"] + lines if lines else []
+        return ["# Not covered; where the opponent can force one of these, the answer is `none`, not shown:"] + lines if lines else []
 
     def left_out(self, colour, side):
         men = self.position.men

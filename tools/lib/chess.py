@@ -1,4 +1,4 @@
-"""Chess read from docs/CHESS.md, plainly and slowly: positions, attack, legal moves, FEN."""
+"""Chess read from docs/proofs/chess.md, plainly and slowly: positions, attack, legal moves, FEN."""
 
 FILES = "abcdefgh"
 KINDS = "KQRBNP"

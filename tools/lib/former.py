@@ -1,4 +1,4 @@
-"""Tables of the former format, read from docs/FORMATS.md: their numbers and their bytes."""
+"""Tables of the former format, read from docs/users/formats.md: their numbers and their bytes."""
 
 import struct
 

@@ -1,5 +1,5 @@
 """What exit lines rest on, and what the bounds of a side then are in chess: what `premises` prints, read from
-docs/FORMATS.md."""
+docs/users/formats.md."""
 
 from lib.chess import after, legal_moves, side_of, write_fen
 from lib.game import HOLD, SIDES, is_win, opponent

@@ -1,5 +1,5 @@
 """Why a side has no win, or not even a hold, by any codes, right or wrong: what `why` prints, read from
-docs/FORMATS.md."""
+docs/users/formats.md."""
 
 from lib.chess import move_text, write_fen
 from lib.game import bound_text, is_failure, is_win

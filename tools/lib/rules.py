@@ -1,4 +1,4 @@
-"""Rules texts read from docs/FORMATS.md: the rules, or the first bad line with its cause."""
+"""Rules texts read from docs/users/formats.md: the rules, or the first bad line with its cause."""
 
 from collections import namedtuple
 from math import comb

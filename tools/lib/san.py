@@ -1,4 +1,4 @@
-"""Algebraic notation, written by docs/FORMATS.md."""
+"""Algebraic notation, written by docs/users/formats.md."""
 
 from lib.chess import after, in_check, is_capture, legal_moves, name_of
 

@@ -1,4 +1,4 @@
-"""Numbers of a set, read from docs/FORMATS.md: from a position to its number and back."""
+"""Numbers of a set, read from docs/users/formats.md: from a position to its number and back."""
 
 from math import comb
 

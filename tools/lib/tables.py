@@ -1,4 +1,4 @@
-"""Table files read from docs/FORMATS.md: their bytes, and how they are opened."""
+"""Table files read from docs/users/formats.md: their bytes, and how they are opened."""
 
 import struct
 from collections import namedtuple

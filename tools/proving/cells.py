@@ -1,6 +1,6 @@
 """A cell is a rules text to be: a slot for each man who is there, with the states that he may have.
 
-Sizes and numbers are those of docs/FORMATS.md.
+Sizes and numbers are those of docs/users/formats.md.
 """
 
 from __future__ import annotations

@@ -1,4 +1,4 @@
-"""How long the longest win of a table is, by its codes (docs/FORMATS.md)."""
+"""How long the longest win of a table is, by its codes (docs/users/formats.md)."""
 
 import array
 import os

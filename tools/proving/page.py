@@ -74,8 +74,9 @@ def rests_on(proof):
     ]
     for told in proof.told:
         if len(proof.told) > 1:
-            sides = " and ".join(side.capitalize() for side, bound in read_query(told.query).items() if bound.is_safe)
-            parts.append(f"By `{table_of(told.name)}` {sides} does not lose:")
+            sides = [side.capitalize() for side, bound in read_query(told.query).items() if bound.is_safe]
+            do = "do" if len(sides) > 1 else "does"
+            parts.append(f"By `{table_of(told.name)}` {' and '.join(sides)} {do} not lose:")
         program, over = ("atlas" if told.over else "freezer"), "".join(f" {table_of(name)}" for name in told.over)
         parts.append("\n".join((
             "```", f"$ {program} check {table_of(told.name)}{over}", told.check.rstrip("\n"),

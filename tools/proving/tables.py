@@ -1,4 +1,4 @@
-"""Calls of the proved programs, and the codes of their tables, read by docs/FORMATS.md."""
+"""Calls of the proved programs, and the codes of their tables, read by docs/users/formats.md."""
 
 from __future__ import annotations
 

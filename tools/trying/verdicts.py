@@ -1,5 +1,5 @@
-"""What each pair of answers shows, held against a table that was worked out from docs/GUIDE.md and
-docs/PREMISES.md; and the verdicts on small endings."""
+"""What each pair of answers shows, held against a table that was worked out from docs/users/guide.md and
+docs/users/rules.md; and the verdicts on small endings."""
 
 from proving.asking import NothingShown, Told
 from proving.proof import Status

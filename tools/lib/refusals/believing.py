@@ -3,9 +3,9 @@
 from lib.refusals.case import Case
 from lib.refusals.fixtures import A, N, N_BELIEVED, N_BLACK, N_FILE, table
 
-BELIEVED = "FORMATS, Premises: the first of these lines that applies"
-SIDES = "FORMATS, Premises: for White and then for Black the first of these that applies"
-BY_MEN = "FORMATS, Premises: the men show a draw or a hold"
+BELIEVED = "formats.md, Premises: the first of these lines that applies"
+SIDES = "formats.md, Premises: for White and then for Black the first of these that applies"
+BY_MEN = "formats.md, Premises: the men show a draw or a hold"
 
 
 def premises_of(lines, rules, backs, told, believed, sides):

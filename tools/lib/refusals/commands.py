@@ -45,7 +45,7 @@ def behind(is_checked):
 
 
 def freezer():
-    """COMMANDS: `words`, FEN and SIDE; then files, rules before tables, a table before its back table in
+    """commands.md: `words`, FEN and SIDE; then files, rules before tables, a table before its back table in
     `chaincheck`; then the position, the codes, and what is written."""
     count, fen, table_fen = faults.count, faults.fen(), {"TABLE": "A.t", "FEN": IN_A}
     place, typed = faults.outside(IN_H), {**table_fen, "SIDE": "white"}
@@ -86,7 +86,7 @@ def freezer():
 
 
 def atlas():
-    """ATLAS: words, names, SIDE and FEN; then the rules or TABLE, and the BACKs from the left; TABLE is
+    """commands.md: words, names, SIDE and FEN; then the rules or TABLE, and the BACKs from the left; TABLE is
     checked last, and a file is made last."""
     fen, place = faults.fen(), faults.outside(IN_A)
     twice, walked = same_of("TABLE"), {"TABLE": "H.t", "FEN": IN_H, "SIDE": "white", **BACKS}
@@ -134,7 +134,7 @@ def same_of(*slots):
 
 
 def no_move():
-    says = "COMMANDS, statuses: the text is that of no legal move"
+    says = "commands.md, refused: the text is that of no legal move"
     words = ("", "Kb7", "Ka7", "Kb8+", "kb8", "a8b8", "Kab8", "Kxb8", "Rh8", "b8")
     return faults.stage([faults.Fault("SAN", word, None, 15, "no move", says) for word in words])
 
@@ -207,7 +207,7 @@ def standing():
         for found in each.stages:
             for fault in found.few:
                 if fault.slot not in ("NEW", "COUNT"):
-                    says = f"ATLAS, refused, and PROMISES: a refusal changes no file; {fault.says}"
+                    says = f"commands.md, refused: a refusal changes no file; {fault.says}"
                     yield call(program, name, each, fault, there, says=says)
         yield call(program, name, each, there, says="the right call over a file", answer=(
             0, each.text, {"there": each.made["new"]}

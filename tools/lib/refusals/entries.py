@@ -7,11 +7,11 @@ from lib.refusals.fixtures import (
 )
 from lib.tables import CHAINED, LEANING, MAGIC
 
-FIRST = "FORMATS, refusals: the first entry, by number and White before Black at one number"
-KEPT = "FORMATS, what the program prints: `query` prints the two codes as they are in the file"
-START = "FORMATS, refusals: the kept code of the start is that of a failure, and is its local code"
-WAY = "COMMANDS, line: at the first position whose code is not what its moves give"
-ASKED = "FORMATS, Why: a kept code that is not the local one ends the text; that of a win is not compared"
+FIRST = "commands.md, refused: the first entry, by number and White before Black at one number"
+KEPT = "formats.md, Bounds: `query` prints the two codes as they are in the file"
+START = "formats.md, A line: the kept code of the start is that of a failure, and is its local code"
+WAY = "commands.md, line and play: at the first position whose code is not what its moves give"
+ASKED = "formats.md, Why: a kept code that is not the local one ends the text; that of a win is not compared"
 NO_BOUND, OUT = "no bound\n", "outside\n"
 # What `why` says of 5 in A, but for its last line.
 LOST = "white none\nb8c8\nexit unknown\n2k5/8/1K6/8/8/8/8/7R w - - 0 1\n"
@@ -64,12 +64,12 @@ def checks():
         files = {"front": front, "N.t": N_FILE, "bad": table_of_a({"at0": 6}, {})}
         yield Case("atlas", ("check", "front", "N.t"), files, 6, f"wrong {told}\n", FIRST)
         later = "back 2: wrong white 0 kept 6 given 4\n"
-        yield Case("atlas", ("check", "front", "N.t", "bad"), files, 6, later, "ATLAS, refused: TABLE is checked last")
+        yield Case("atlas", ("check", "front", "N.t", "bad"), files, 6, later, "commands.md, refused: TABLE comes last")
 
 
 def lists():
-    """ATLAS: the order of BACKs, and what a list that is too short leaves."""
-    says = "ATLAS, value: a BACK is checked over those before it; the first that has a position answers"
+    """commands.md: the order of BACKs, and what a list that is too short leaves."""
+    says = "commands.md, Follow-up tables: a BACK stands over those before it; the first that has a position answers"
     files = {**files_of(["A.t", "N.t", "L.t", "H.t", "H", "A"]), "e.t": EMPTY, "bare.t": BARE}
     for words, status, text in (
         (("check", "H.t", "N.t", "L.t"), 0, "exact 4 over 2 8\n"),
@@ -123,8 +123,8 @@ def walks():
     mates = "white wins within 2\na8b8\nh1h8\nmate\n"
     for white, fen, side, status, text, says in (
         ({}, OPEN_IN_A, "white", 7, NO_BOUND, START), ({}, IN_A, "black", 7, NO_BOUND, START),
-        ({}, MATE_IN_ONE, "black", 7, NO_BOUND, START), ({}, IN_H, "white", 7, OUT, "COMMANDS, statuses: outside"),
-        ({"at4": 0}, IN_H, "white", 7, OUT, "COMMANDS, statuses: outside"),
+        ({}, MATE_IN_ONE, "black", 7, NO_BOUND, START), ({}, IN_H, "white", 7, OUT, "commands.md, refused: outside"),
+        ({"at4": 0}, IN_H, "white", 7, OUT, "commands.md, refused: outside"),
         ({"at5": 7}, OPEN_IN_A, "white", 6, "wrong white 5 kept 7 given 5\n", START),
         ({"at5": 3}, OPEN_IN_A, "white", 6, "wrong white 5 kept 3 given 5\n", START),
         ({"at5": 0}, OPEN_IN_A, "white", 6, "wrong white 5 kept 0 given 5\n", START),
@@ -146,7 +146,7 @@ def walks():
 
 def journeys():
     """`line` and `play` of `atlas`: a wrong code of TABLE, and of a BACK on the way."""
-    says = "FORMATS, Why: behind `back K: ` where the wrong code is one of a BACK"
+    says = "formats.md, Why: behind `back K: ` where the wrong code is one of a BACK"
     to_l = "white wins within 2\na8b8\nh2h1\nexit white wins\nback 2\n"
     for white, behind, fen, status, text in (
         ({}, {}, OPEN_IN_H, 7, NO_BOUND), ({}, {}, IN_A, 7, OUT),
@@ -194,7 +194,7 @@ def reasons():
 
 def deciders():
     """The last line of `why`: the first of three that applies."""
-    says = "FORMATS, Why: the first of `back K`, `line N` and `no line` that applies"
+    says = "formats.md, Why: the first of `back K`, `line N` and `no line` that applies"
     line = A + "# a line that says nothing\nexit unknown if on:black:K:c8\n"
     plain, over = (table(line, A_WHITE, A_BLACK, magic) for magic in (MAGIC, LEANING))
     for content, backs, end in (
@@ -216,7 +216,7 @@ MOST_PLIES = 100
 
 def cuts():
     """A line from a hold is cut after 100 plies, a session is not."""
-    says = "COMMANDS, line: the line ends with `cut` after 100 plies"
+    says = "commands.md, line and play: the line ends with `cut` after 100 plies"
     fen = "7k/8/8/R7/8/8/6R1/K7 w - - 0 1"
     white = ["a1b1", "b1a1"] * 100
     black = ["h8h7", *["h7h6", "h6h7"] * 100]

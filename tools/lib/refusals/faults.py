@@ -22,13 +22,13 @@ def stage(found, few=4):
 def count(least, most):
     """Too few words and too many."""
     wrong = [*range(least), most + 1, most + 2, most + 9]
-    says = "COMMANDS, statuses: too few words or too many"
+    says = "commands.md, refused: too few words or too many"
     return stage([Fault("COUNT", n, None, 2, "words: count", says) for n in wrong], 3)
 
 
 def same(*pairs):
     """Names that are given twice."""
-    says = "COMMANDS and ATLAS: the same name, compared after the words are counted"
+    says = "commands.md, refused: the same name, compared after the words are counted"
     return stage([Fault(one, Same(other), None, 2, "words: same name", says) for other, one in pairs])
 
 
@@ -36,7 +36,7 @@ SIDES = ("", "White", "BLACK", "w", "b", "white ", " black", "white\n", "both", 
 
 
 def side():
-    says = "COMMANDS, statuses: SIDE is neither `white` nor `black`; read after names, before FEN"
+    says = "commands.md, refused: SIDE is neither `white` nor `black`; read after names, before FEN"
     return stage([Fault("SIDE", word, None, 2, "words: side", says) for word in SIDES], 3)
 
 
@@ -52,23 +52,23 @@ FENS = (
 
 
 def fen():
-    says = "FORMATS, FEN: the first check that fails names the fault; PROMISES: no file is opened then"
+    says = "formats.md, FEN: the first check that fails names the fault; commands.md, refused: no file is opened then"
     return stage([Fault("FEN", word, None, 4, f"fen: {cause}", says) for word, cause in FENS], 6)
 
 
 def number():
     words = ("", "64", "99", "000000064", "0000000000", "0000000063", "-1", "+1", " 1", "1 ", "1\n", "a", "a1", "1.0",
              "0x1", "1e1", "999999999", "9999999999", "18446744073709551616", "６")
-    says = "FORMATS, words: K is one to nine digits of a value up to 63"
+    says = "commands.md, refused: K is one to nine digits of a value up to 63"
     return stage([Fault("K", word, None, 2, "words: number", says) for word in words])
 
 
 def lookups(slot, missing):
     """Names under which there is no file, and names that cannot be looked up."""
     for word in ("nowhere", "", "nowhere/t", "gone", "folder/t"):
-        yield Fault(slot, word, None, 12, f"missing {missing}", "COMMANDS, statuses: there is no file of that name")
+        yield Fault(slot, word, None, 12, f"missing {missing}", "commands.md, refused: there is no file of that name")
     for word in ("folder", "folder/", "A/t", "A/", "loop", "n" * 256, "/"):
-        yield Fault(slot, word, None, 8, "store fault", "DECISIONS: a folder, or a path through a file, is no file")
+        yield Fault(slot, word, None, 8, "store fault", "decisions.md: a folder, or a path through a file, is no file")
 
 
 RULES = (
@@ -83,7 +83,7 @@ RULES = (
 def rules():
     found = list(lookups("RULES", "rules"))
     for text, cause in RULES:
-        says = "FORMATS, Causes: the first bad line and its first cause"
+        says = "formats.md, Causes: the first bad line and its first cause"
         found.append(Fault("RULES", "bad.rules", text.encode(), 3, f"rules {cause}", says))
     return Stage(found, [found[0], found[5], *found[-7::3]])
 
@@ -101,7 +101,7 @@ def opening(slot, prefix, wanted, missing, checked=()):
 
 
 def opened(slot, name, prefix, head):
-    return Fault(slot, name, head.content, 5, f"{prefix}: {head.cause}", f"FORMATS, Table files, {head.step}")
+    return Fault(slot, name, head.content, 5, f"{prefix}: {head.cause}", f"formats.md, Table files, {head.step}")
 
 
 def plain(slot="TABLE"):
@@ -131,36 +131,36 @@ WRONG = "wrong white 0 kept 6 given 4"
 
 def back():
     """The one back table of `chain` and `chaincheck`, which is checked before the table over it."""
-    checked = [Fault("BACK", "BACK.wrong", WRONG_N, 6, f"back {WRONG}", "COMMANDS, statuses: the first wrong entry")]
+    checked = [Fault("BACK", "BACK.wrong", WRONG_N, 6, f"back {WRONG}", "commands.md, refused: the first wrong entry")]
     return opening("BACK", "back", (MAGIC,), "back", checked)
 
 
 def behind(place, is_checked):
     """A BACK of `atlas`, at its place."""
     slot = f"BACK {place}"
-    says = "ATLAS, refused: the first entry that is not its local code over the BACKs before it"
+    says = "commands.md, refused: the first entry that is not its local code over the BACKs before it"
     checked = [Fault(slot, f"{place}.wrong", WRONG_N, 6, f"back {place}: {WRONG}", says)] if is_checked else []
     return opening(slot, f"back {place}", (MAGIC, LEANING), f"back {place}", checked)
 
 
 def written(slot="NEW"):
     """Names under which no file can be made."""
-    says = "COMMANDS, statuses: a file could not be written"
+    says = "commands.md, refused: a file could not be written"
     words = ("folder", "folder/", "A/t", "nowhere/t", "/dev/full", "", "loop", "n" * 256)
     return stage([Fault(slot, word, None, 8, "store fault", says) for word in words], 3)
 
 
 def outside(*further):
     """Positions that are in no set, or in that of a table behind alone."""
-    says = "COMMANDS, statuses: the position is not in the set"
+    says = "commands.md, refused: the position is not in the set"
     return stage([Fault("FEN", word, None, 7, "outside", says) for word in (OUTSIDE, *further)])
 
 
 def unbounded(word):
-    return stage([Fault("FEN", word, None, 7, "no bound", "COMMANDS, statuses: the side has neither a win nor a hold")])
+    return stage([Fault("FEN", word, None, 7, "no bound", "commands.md, refused: neither a win nor a hold")])
 
 
 def wrong(content, text):
     """A table with an altered entry, and the line that names it."""
-    says = "COMMANDS, statuses: the first entry that is not what it must be"
+    says = "commands.md, refused: the first entry that is not what it must be"
     return stage([Fault("TABLE", "TABLE.wrong", content, 6, text, says)])

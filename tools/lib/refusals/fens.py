@@ -1,4 +1,4 @@
-"""Each fault of a FEN by docs/FORMATS.md, at each of its places, in order, and two at once."""
+"""Each fault of a FEN by docs/users/formats.md, at each of its places, in order, and two at once."""
 
 from lib.refusals.commands import both, call
 from lib.refusals.faults import Fault
@@ -138,11 +138,11 @@ def cases():
     """Each of them by `moves`; a few by each command with a FEN; and what is read."""
     commands = {(program, name): each for program, name, each in both() if "FEN" in each.slots}
     for number, (text, cause) in enumerate(refused()):
-        fault = Fault("FEN", text, None, 4, f"fen: {cause}", f"FORMATS, FEN: `{cause}`")
+        fault = Fault("FEN", text, None, 4, f"fen: {cause}", f"formats.md, FEN: `{cause}`")
         for place, ((program, name), each) in enumerate(commands.items()):
             if name == "moves" or (number + place) % len(commands) == 0 or number % 11 == 0:
                 yield call(program, name, each, fault, says=fault.says)
     moves = commands["freezer", "moves"]
     for text, answer in ACCEPTED:
-        fault = Fault("FEN", text, None, 0, answer, "FORMATS, FEN: what is read")
+        fault = Fault("FEN", text, None, 0, answer, "formats.md, FEN: what is read")
         yield call("freezer", "moves", moves, fault, says=fault.says)

@@ -5,9 +5,9 @@ import os
 from lib.refusals.case import Case
 from lib.refusals.fixtures import A, A_FILE, BOUNDS, H, IN_A, MATE_IN_ONE, N_FILE, OUTSIDE, files_of
 
-NO_MOVE = "FORMATS, Reading: a sign that the move does not have, an origin that is not needed, a missing `x` or `=`"
-ENDS = "COMMANDS, moves: if there is none, it prints `mate` or `stalemate`"
-SPECIAL = "RULES, end: `store fault` means that the name is a folder or a pipe"
+NO_MOVE = "formats.md, Reading: a sign that the move does not have, an origin that is not needed, a missing `x` or `=`"
+ENDS = "commands.md, moves: if there is none, it prints `mate` or `stalemate`"
+SPECIAL = "commands.md, refused: `store fault` means that the name is a folder or a pipe"
 
 # Positions, the text of a move of each with its coordinates and the FEN afterwards, and texts of none.
 MOVES = (
@@ -60,11 +60,11 @@ def special_files():
         yield Case("freezer", words, files_of(words), 8, "store fault\n", SPECIAL, A.encode(), piped=True)
     for words in (("size", "/dev/stdin"), ("build", "/dev/stdin", "new", "N.t"), ("premises", "/dev/stdin")):
         yield Case("atlas", words, files_of(words), 8, "store fault\n", SPECIAL, A.encode(), piped=True)
-    says = "COMMANDS, Files: an output such as /dev/null is written by the program itself"
+    says = "commands.md, Files and long work: an output such as /dev/null is written by the program itself"
     yield Case("freezer", ("build", "A", "/dev/null"), files_of(["A"]), 0, "built 8\n", says)
     yield Case("freezer", ("migrate", "old.t", "/dev/null"), files_of(["old.t"]), 0, "migrated 8\n", says)
     yield Case("atlas", ("build", "H", "/dev/null", "N.t", "L.t"), files_of(["H", "N.t", "L.t"]), 0, "built 4\n", says)
-    says = "FORMATS, Lines and words: a text that is empty; Table files, step 2"
+    says = "formats.md, Lines and words: a text that is empty; Table files, step 2"
     yield Case("freezer", ("solve", "/dev/null", IN_A), {}, 3, "rules 0: header\n", says)
     yield Case("freezer", ("check", "/dev/null"), {}, 5, "table: truncated 0 due 16\n", says)
     yield Case("atlas", ("size", "/dev/null"), {}, 3, "rules 0: header\n", says)
@@ -72,14 +72,14 @@ def special_files():
     to_files = (("query", "to.t", IN_A), BOUNDS), (("check", "to.t"), "exact 8\n"), (("solve", "to", IN_A), BOUNDS)
     for words, text in to_files:
         files = {"A": A.encode(), "A.t": A_FILE, "to.t": "A.t", "to": "A"}
-        yield Case("freezer", words, files, 0, text, "COMMANDS, Files: a link to the file stays a link")
+        yield Case("freezer", words, files, 0, text, "commands.md, Files and long work: a link stays a link")
     files = {"H": H.encode(), "N.t": N_FILE}
-    yield Case("freezer", ("solve", "H", OUTSIDE), files, 7, "outside\n", "COMMANDS, statuses: outside")
+    yield Case("freezer", ("solve", "H", OUTSIDE), files, 7, "outside\n", "commands.md, refused: outside")
 
 
 def closed_files():
     """Files that may not be read, or not be written."""
-    says = "RULES, end: `store fault` means that the file may not be read, or that it could not be written"
+    says = "commands.md, refused: `store fault` means that the file may not be read, or that it could not be written"
     for program, words, closed in (
         ("freezer", ("solve", "A", IN_A), "A"), ("freezer", ("build", "A", "new"), "A"),
         ("freezer", ("check", "A.t"), "A.t"), ("freezer", ("query", "A.t", IN_A), "A.t"),

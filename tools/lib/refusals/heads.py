@@ -1,4 +1,4 @@
-"""Faults of table files, by the steps in which docs/FORMATS.md opens one."""
+"""Faults of table files, by the steps in which docs/users/formats.md opens one."""
 
 import struct
 from collections import namedtuple

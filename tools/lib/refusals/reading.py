@@ -94,7 +94,7 @@ def readers():
 
 def refused_by(text, line, cause, program, name, each, slot, kind):
     """The text before a command, which refuses it with this line and cause."""
-    says = f"FORMATS, Causes: `{cause}`"
+    says = f"formats.md, Causes: `{cause}`"
     if slot == "RULES":
         fault = Fault(slot, "bad.rules", text.encode("latin-1"), 3, f"rules {line}: {cause}", says)
     else:
@@ -116,7 +116,7 @@ def refused():
 def read():
     """Texts that are accepted: the next thing in order is refused instead, and the size is told."""
     by = {(program, name): each for program, name, each in both()}
-    says = "FORMATS, Lines: the text has these forms, and no cause comes"
+    says = "formats.md, Rules: the text has these forms, and no cause comes"
     for text, size in (*accepted(), *turn_states()):
         raw = text.encode("latin-1")
         for program, name, missing in (
@@ -154,7 +154,7 @@ def migrations():
         cause = f"size 0 due {size}"
         if size > FORMER_LARGEST:
             cause = f"rules 0: set too big {min(size, 2**64 - 1)}"
-        says = "FORMATS, The former format: step 6 refuses a former size above 16,777,216; step 7 has the former size"
+        says = "formats.md, The former format: step 6 refuses a size above 16,777,216; step 7 has the former size"
         yield call("freezer", "migrate", each, Fault(
             "OLD", "old.head", head_file(FORMER, text), 5, f"table: {cause}", says
         ), says=says)
@@ -163,7 +163,7 @@ def migrations():
         "group black 1 R:a1-a5\n"
     )
     size = 2 * 64 * 64 * comb(64, 2) ** 2 * 5
-    says = "FORMATS, The former format: after all causes of the text"
+    says = "formats.md, The former format: after all causes of the text"
     yield call("freezer", "migrate", each, Fault(
         "OLD", "old.head", head_file(FORMER, both_large), 5, f"table: rules 0: set too big {size}", says
     ), says=says)
@@ -184,7 +184,7 @@ def sizes():
             numbers *= count
         told = "".join(f"group {k} {count}\n" for k, count in enumerate(choices, 1))
         answer = f"turns {turns}\n{told}numbers {numbers}\ndisk {16 + len(text) + 8 * numbers}\nmemory {16 * numbers}"
-        says = "ATLAS, size: turn states, choices, their product, bytes of the table and of the lists"
+        says = "commands.md, size: turn states, choices, their product, bytes of the table and of the lists"
         yield call("atlas", "size", each, Fault("RULES", "good.rules", text.encode(), 0, answer, says), says=says)
 
 

@@ -6,13 +6,13 @@ from lib.refusals.fixtures import IN_A, IN_H, MATE_IN_ONE, files_of
 BOUND = "white wins within 2\n"
 MATE = BOUND + "reply a8b8\nmove h1h8\nmate\n"
 MOST_LINES, LONGEST_LINE = 10_000, 64
-LINES = "COMMANDS, play: a session reads at most 10,000 lines"
-LENGTH = "COMMANDS, play: a line has at most 64 bytes"
-NO_MOVE = "COMMANDS, play: if a line is no legal move, the answer is `illegal`"
-BLANKS = "COMMANDS, play: spaces, tabs and carriage returns at both ends are dropped"
-ENDED = "COMMANDS, play: `input ended` if a move is wanted and no byte is left"
-REST = "COMMANDS, play: nothing after the last line of a session is read"
-FAULT = "COMMANDS, play: a source that fails ends the session with `input fault`"
+LINES = "commands.md, line and play: a session reads at most 10,000 lines"
+LENGTH = "commands.md, line and play: a line has at most 64 bytes"
+NO_MOVE = "commands.md, line and play: if a line is no legal move, the answer is `illegal`"
+BLANKS = "commands.md, line and play: spaces, tabs and carriage returns at both ends are dropped"
+ENDED = "commands.md, line and play: `input ended` if a move is wanted and no byte is left"
+REST = "commands.md, line and play: nothing after the last line of a session is read"
+FAULT = "commands.md, line and play: a source that fails ends the session with `input fault`"
 
 
 def illegal(count):
@@ -127,7 +127,7 @@ def over_parts():
 def of_several_tables():
     words = ("play", "H.t", IN_H, "white", "N.t", "L.t")
     for given, text, status, taken, says in over_parts():
-        says = f"FORMATS, over several tables: the limit counts over all parts; {says}"
+        says = f"formats.md, Over follow-up tables: the limit counts over all parts; {says}"
         yield Case("atlas", words, files_of(words), status, text, says, given, taken)
     yield Case("atlas", words, files_of(words), 10, BEFORE + "input fault\n", FAULT, None)
     further = BEFORE + BETWEEN

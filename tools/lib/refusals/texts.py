@@ -1,4 +1,4 @@
-"""Rules texts at each cause of docs/FORMATS.md, at each limit and just beyond it, and the order of causes."""
+"""Rules texts at each cause of docs/users/formats.md, at each limit and just beyond it, and the order of causes."""
 
 from math import comb
 

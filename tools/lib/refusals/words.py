@@ -20,8 +20,8 @@ NO_TEXTS = (b"\xff", b"a\x80", b"\xc3", b"\xed\xa0\x80", b"white\xfe")
 
 
 def commands():
-    """COMMANDS, statuses: the first word is no command, whatever stands behind it."""
-    says = "COMMANDS, statuses: the first word is no command"
+    """commands.md, refused: the first word is no command, whatever stands behind it."""
+    says = "commands.md, refused: the first word is no command"
     for program, own, others in (("freezer", FREEZER, ATLAS), ("atlas", ATLAS, FREEZER)):
         unknown = [*NO_COMMAND, *(name for name in others if name not in own)]
         yield Case(program, (), {}, 2, "words: command\n", says)
@@ -31,8 +31,8 @@ def commands():
 
 
 def no_texts():
-    """COMMANDS, statuses: no text if a word of the command line is itself no text."""
-    says = "COMMANDS, statuses: no text if a word is itself no text"
+    """commands.md, refused: no text if a word of the command line is itself no text."""
+    says = "commands.md, refused: no text if a word is itself no text"
     for program, name, each in both():
         words = [name, *each.slots.values()]
         for place in range(len(words) + 1):
@@ -49,7 +49,7 @@ def no_texts():
 
 def names():
     """What is the same name and what is not; names that are compared as texts."""
-    says = "FORMATS, words: names are refused if both words are equal texts, and no others"
+    says = "commands.md, refused: names are refused if both words are equal texts, and no others"
     for words, status, text, made in (
         (("chain", "A", "A", "new"), 5, "back: magic", {}),
         (("chain", "N.t", "N.t", "new"), 3, "rules 1: header", {}),
@@ -75,8 +75,8 @@ def names():
 
 
 def names_of_atlas():
-    """ATLAS, refused: a file is named twice among the words; SIDE and FEN name no file."""
-    says = "ATLAS, refused: a file is named twice among the words of a command that takes BACKs"
+    """commands.md, refused: a file is named twice among the words; SIDE and FEN name no file."""
+    says = "commands.md, refused: a file is named twice among the words of a command that takes BACKs"
     plain = {**files_of(["A", "A.t", "L.t", "N.t"]), "white": L_FILE, "8": N_FILE}
     for words, status, text in (
         (("line", "white", IN_A, "white", "N.t"), 0, LINE_IN_A), (("why", "white", IN_A, "white", "N.t"), 0, WINS),
@@ -96,8 +96,8 @@ def names_of_atlas():
 
 
 def many_backs():
-    """ATLAS, refused: at most 16 BACKs, and none for `why` and `premises`."""
-    says = "ATLAS, refused: too few words, or more than 16 BACKs"
+    """commands.md, refused: at most 16 BACKs, and none for `why` and `premises`."""
+    says = "commands.md, refused: too few words, or more than 16 BACKs"
     for count in (1, 2, 15, 16, 17, 18):
         backs = [f"b{n}" for n in range(count)]
         files = {"A": FILES["A"], "L.t": L_FILE, **dict.fromkeys(backs, N_FILE)}
@@ -122,7 +122,7 @@ def many_backs():
 
 
 def without_backs():
-    says = "ATLAS, refused: `why` and `premises` may have no BACK"
+    says = "commands.md, refused: `why` and `premises` may have no BACK"
     plain = "believed 0\nwhite true, exits undecided\nblack true, exits undecided\n"
     yield Case("atlas", ("premises", "A"), files_of(["A"]), 0, "rules\n" + plain, says)
     for name in ("A.t", "L.t"):
@@ -131,7 +131,7 @@ def without_backs():
 
 def samples():
     """K is nine digits at most; the answer begins with K without its zeros and the size of its set."""
-    says = "FORMATS, words: K is one to nine digits of a value up to 63"
+    says = "commands.md, refused: K is one to nine digits of a value up to 63"
     each = next(each for _, name, each in both() if name == "sample")
     yield call("freezer", "sample", each, Fault("K", "000000063", None, 0, None, says), says=says, answer=(0, None, {}))
 
