@@ -3,7 +3,7 @@ use Rattle.std.proofs.Common.{◌≡◌, refl, sym, ap, subst, ◌∙◌, ℕ, �
 use Rattle.frz_board.specs.declared.man.Colour.{Colour}
 use Rattle.frz_board.specs.declared.man.Colour.TheVariants.{White, Black}
 use Rattle.frz_exits.specs.Books.{value_by}
-use Rattle.frz_graph.specs.EntryCodes.{of_side}
+use Rattle.frz_game.specs.EntryCodes.{of_side}
 use Rattle.frz_game.proofs.Lemmas.{table_exact}
 use Rattle.frz_rules.specs.Text.{rules_of}
 use Rattle.frz_store.specs.Bytes.{AreBytes, HoldsBytes}
