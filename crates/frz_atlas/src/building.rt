@@ -6,7 +6,7 @@ ghost use Rattle.frz_sets.specs.Sound.{IsSound};
 ghost use Rattle.frz_store.specs.Told.{store_of};
 ghost use Rattle.frz_table.specs.declared.kind.FileKind.TheVariants.{Atlas};
 ghost use Rattle.frz_table.specs.Layout.{magic_of};
-ghost use Rattle.frz_build.specs.Building.{Builds, writing_calls};
+ghost use Rattle.frz_chain.specs.Building.{Builds, writing_calls};
 ghost use Rattle.frz_backs.specs.Values.{atlas_value};
 ghost use Rattle.frz_chain.specs.FileOn.{loaded_back};
 ghost use Rattle.frz_atlas.specs.Building.{BuildsAtlas, RefusesToBuild};
@@ -14,8 +14,7 @@ ghost use Rattle.frz_atlas.specs.Causes.{HasAtlasCause};
 
 use crate::{AtlasFault, open_behind};
 use frz_backs::AtlasBook;
-use frz_build::{NewTable, build_ruled};
-use frz_chain::{BackTable, ReadRules};
+use frz_chain::{BackTable, NewTable, ReadRules, build_ruled};
 use frz_rules::read_rules;
 use frz_steps::Steps;
 use frz_store::{Store, StoreFault};
