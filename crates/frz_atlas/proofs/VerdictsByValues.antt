@@ -7,9 +7,9 @@ use Rattle.frz_table.specs.declared.kind.FileKind.{FileKind}
 use Rattle.frz_table.specs.declared.kind.FileKind.TheVariants.{Plain, Chained, Atlas}
 use Rattle.frz_check.specs.declared.verdict.Verdict.{Verdict}
 use Rattle.frz_check.specs.Verdicts.{IsVerdict}
-use Rattle.frz_chain.specs.Books.{Back}
-use Rattle.frz_chain.specs.FileOn.{loaded_back}
-use Rattle.frz_chain.specs.declared.back.BackTable.{BackTable}
+use Rattle.frz_backs.specs.Books.{Back}
+use Rattle.frz_backs.specs.FileOn.{loaded_back}
+use Rattle.frz_backs.specs.BackTable.{BackTable}
 use Rattle.frz_backs.specs.Links.{value_over}
 use Rattle.frz_backs.specs.Loaded.{leans_as}
 use Rattle.frz_backs.specs.Values.{atlas_value}

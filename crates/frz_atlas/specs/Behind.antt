@@ -11,8 +11,8 @@ use Rattle.frz_check.specs.declared.verdict.Verdict.{Verdict}
 use Rattle.frz_check.specs.declared.verdict.Verdict.TheVariants as verdicts
 use Rattle.frz_check.specs.Kept.{IsVerdictOn, kept_codes}
 use Rattle.frz_check.specs.Verdicts.{IsVerdict}
-use Rattle.frz_chain.specs.Books.{Back}
-use Rattle.frz_chain.specs.FileOn.{back_of}
+use Rattle.frz_backs.specs.Books.{Back}
+use Rattle.frz_backs.specs.FileOn.{back_of}
 use Rattle.frz_backs.specs.Links.{Link, value_over}
 use Rattle.frz_atlas.specs.declared.fault.BackFault.{BackFault}
 use Rattle.frz_atlas.specs.declared.fault.BackFault.TheVariants.{Refused, Wrong}

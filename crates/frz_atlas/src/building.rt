@@ -6,15 +6,14 @@ ghost use Rattle.frz_sets.specs.Sound.{IsSound};
 ghost use Rattle.frz_store.specs.Told.{store_of};
 ghost use Rattle.frz_table.specs.declared.kind.FileKind.TheVariants.{Atlas};
 ghost use Rattle.frz_table.specs.Layout.{magic_of};
-ghost use Rattle.frz_chain.specs.Building.{Builds, writing_calls};
+ghost use Rattle.frz_backs.specs.Building.{Builds, writing_calls};
 ghost use Rattle.frz_backs.specs.Values.{atlas_value};
-ghost use Rattle.frz_chain.specs.FileOn.{loaded_back};
+ghost use Rattle.frz_backs.specs.FileOn.{loaded_back};
 ghost use Rattle.frz_atlas.specs.Building.{BuildsAtlas, RefusesToBuild};
 ghost use Rattle.frz_atlas.specs.Causes.{HasAtlasCause};
 
 use crate::{AtlasFault, open_behind};
-use frz_backs::AtlasBook;
-use frz_chain::{BackTable, NewTable, ReadRules, build_ruled};
+use frz_backs::{AtlasBook, BackTable, NewTable, ReadRules, build_ruled};
 use frz_rules::read_rules;
 use frz_steps::Steps;
 use frz_store::{Store, StoreFault};

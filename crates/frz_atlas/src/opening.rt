@@ -8,7 +8,7 @@ ghost use Rattle.frz_table.specs.Layout.{pieces_of};
 ghost use Rattle.frz_table.specs.Possible.{MayKeep};
 ghost use Rattle.frz_table.specs.Tables.{Carries, table_size};
 ghost use Rattle.frz_check.specs.Verdicts.{IsVerdict};
-ghost use Rattle.frz_chain.specs.FileOn.{loaded_back};
+ghost use Rattle.frz_backs.specs.FileOn.{loaded_back};
 ghost use Rattle.frz_backs.specs.Links.{value_over};
 ghost use Rattle.frz_backs.specs.Loaded.{leans_as};
 ghost use Rattle.frz_atlas.specs.Causes.{HasAtlasCause, HasFileCause, HasOneCause};
@@ -16,8 +16,7 @@ ghost use Rattle.frz_atlas.specs.Opening.{GivesBack, OpensAll, OpensOver, Refuse
 
 use crate::kinds::open_own;
 use crate::{AtlasFault, BackFault};
-use frz_backs::AtlasBook;
-use frz_chain::BackTable;
+use frz_backs::{AtlasBook, BackTable};
 use frz_check::{CheckedCodes, Verdict, load_checked};
 use frz_exits::RuleBook;
 use frz_steps::Steps;
