@@ -13,4 +13,5 @@ pub use fitting::fitting_line;
 pub use forbidding::allowed;
 pub use frz_arena::Class;
 pub use frz_fide::MoveList;
+pub use frz_sets::Value;
 pub use value::{class, is_unknown, lag};
