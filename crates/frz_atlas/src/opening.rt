@@ -1,7 +1,7 @@
 //! Opens, loads and checks the tables behind another from the left, each over those before it.
 ghost use Rattle.std.specs.Prelude.{◌≡◌, ◌≤◌, ◌+◌, ◌*◌, length, map, IfOk, IfErr};
 ghost use Rattle.std.specs.String.{string_bytes};
-ghost use Rattle.frz_graph.specs.EntryCodes.{of_side};
+ghost use Rattle.frz_check.specs.EntryCodes.{of_side};
 ghost use Rattle.frz_store.specs.Told.{store_of, StoreQuiet};
 ghost use Rattle.frz_table.specs.Faults.{IsOutside};
 ghost use Rattle.frz_table.specs.Layout.{pieces_of};
@@ -17,8 +17,7 @@ ghost use Rattle.frz_atlas.specs.Opening.{GivesBack, OpensAll, OpensOver, Refuse
 use crate::kinds::open_own;
 use crate::{AtlasFault, BackFault};
 use frz_backs::{AtlasBook, BackTable};
-use frz_check::{CheckedCodes, Verdict, load_checked};
-use frz_exits::RuleBook;
+use frz_check::{CheckedCodes, RuleBook, Verdict, load_checked};
 use frz_steps::Steps;
 use frz_store::Store;
 use frz_table::{FileKind, TableFault, TableFile};
