@@ -14,10 +14,10 @@ use Rattle.frz_store.specs.declared.outside.StoreFault.{StoreFault}
 use Rattle.frz_store.specs.declared.outside.StoreFault.TheVariants as store
 use Rattle.frz_table.specs.declared.kind.FileKind.TheVariants.{Atlas}
 use Rattle.frz_table.specs.Layout.{magic_of}
-use Rattle.frz_build.specs.Building.{Builds, writing_calls}
-use Rattle.frz_build.proofs.Lemmas.{builds_after, costs_added, costs_kept, quiet_same}
-use Rattle.frz_chain.specs.Books.{Back}
-use Rattle.frz_chain.specs.declared.back.BackTable.{BackTable}
+use Rattle.frz_backs.specs.Building.{Builds, writing_calls}
+use Rattle.frz_backs.proofs.Lemmas.{builds_after, costs_added, costs_kept, quiet_same}
+use Rattle.frz_backs.specs.Books.{Back}
+use Rattle.frz_backs.specs.BackTable.{BackTable}
 use Rattle.frz_backs.specs.Links.{Link, backs_of}
 use Rattle.frz_backs.specs.Loaded.{link_loaded}
 use Rattle.frz_backs.specs.Values.{atlas_value}

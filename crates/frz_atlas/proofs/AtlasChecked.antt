@@ -17,8 +17,8 @@ use Rattle.frz_table.specs.Tables.{Table, table_size}
 use Rattle.frz_table.proofs.Lemmas.{belongs, opened_calls, text_kept}
 use Rattle.frz_check.specs.Kept.{ChecksTable, IsVerdictOn, opened_size}
 use Rattle.frz_check.proofs.Lemmas.{file_opens}
-use Rattle.frz_chain.specs.Books.{Back}
-use Rattle.frz_chain.specs.declared.back.BackTable.{BackTable}
+use Rattle.frz_backs.specs.Books.{Back}
+use Rattle.frz_backs.specs.BackTable.{BackTable}
 use Rattle.frz_backs.specs.Links.{Link, backs_of}
 use Rattle.frz_backs.specs.Loaded.{link_loaded}
 use Rattle.frz_backs.specs.Values.{atlas_value}

@@ -16,7 +16,7 @@ use Rattle.frz_table.specs.Tables.{Table, table_size}
 use Rattle.frz_table.proofs.Lemmas.{belongs, outside_refuses}
 use Rattle.frz_check.specs.Kept.{kept_codes}
 use Rattle.frz_check.proofs.Lemmas.{file_opens}
-use Rattle.frz_chain.specs.Books.{back_with}
+use Rattle.frz_backs.specs.Books.{back_with}
 use Rattle.frz_backs.specs.Links.{Link}
 use Rattle.frz_backs.specs.Loaded.{link_loaded}
 use Rattle.frz_atlas.specs.Causes.{table_fault}

@@ -9,9 +9,9 @@ use Rattle.frz_table.specs.declared.fault.TableFault.TheVariants.{Missing, Magic
 use Rattle.frz_table.specs.Numbers.{AreBytes}
 use Rattle.frz_table.specs.Possible.{MayHold}
 use Rattle.frz_check.specs.declared.verdict.Verdict.TheVariants.{Exact}
-use Rattle.frz_chain.specs.Books.{Back}
-use Rattle.frz_chain.specs.FileOn.{back_of}
-use Rattle.frz_chain.specs.declared.back.BackTable.{BackTable}
+use Rattle.frz_backs.specs.Books.{Back}
+use Rattle.frz_backs.specs.FileOn.{back_of}
+use Rattle.frz_backs.specs.BackTable.{BackTable}
 use Rattle.frz_backs.specs.Links.{Link, backs_of}
 use Rattle.frz_backs.specs.Loaded.{link_loaded}
 use Rattle.frz_atlas.specs.Behind.{AreJudgedOver, IsJudgedOver, IsRefusedAt, IsRefusedOver, TableBytes, backs_in, link_of}

@@ -9,7 +9,7 @@ use Rattle.frz_table.specs.declared.fault.TableFault.TheVariants.{Missing, Magic
 use Rattle.frz_table.specs.Faults.{TableCauses, fault_of}
 use Rattle.frz_table.proofs.Lemmas.{fine_after}
 use Rattle.frz_check.specs.declared.verdict.Verdict.{Verdict}
-use Rattle.frz_chain.specs.declared.back.BackTable.{BackTable}
+use Rattle.frz_backs.specs.BackTable.{BackTable}
 use Rattle.frz_backs.specs.Links.{Link}
 use Rattle.frz_atlas.specs.Causes.{HasAtlasCause, HasFileCause, HasOneCause, back_fault}
 use Rattle.frz_atlas.specs.Opening.{GivesBack}

@@ -1,8 +1,8 @@
 -- Tables that were judged exact from the left are exact, each over those before it.
 use Rattle.std.proofs.Common.{◌≡◌, refl, ap, ◌∙◌, List, [], ◌∷◌, ◌++◌, map}
 use Rattle.frz_board.specs.declared.man.Colour.TheVariants.{White, Black}
-use Rattle.frz_chain.specs.Books.{Back}
-use Rattle.frz_chain.specs.FileOn.{back_of}
+use Rattle.frz_backs.specs.Books.{Back}
+use Rattle.frz_backs.specs.FileOn.{back_of}
 use Rattle.frz_backs.specs.Links.{AreExact, AreExactOver, Link, backs_of}
 use Rattle.frz_atlas.specs.Behind.{AreJudged, AreJudgedOver, TableBytes, backs_in, link_of}
 

@@ -3,7 +3,7 @@ use Rattle.std.specs.Prelude.{Contains}
 use Rattle.std.specs.Option.{option_map}
 use Rattle.std.proofs.Common.{◌≡◌, sym, ℕ, suc, List, [], ◌∷◌, Option, arith}
 use Rattle.frz_store.specs.Files.{Files, put}
-use Rattle.frz_build.proofs.Lemmas.{still_held}
+use Rattle.frz_backs.proofs.Lemmas.{still_held}
 use Rattle.frz_atlas.specs.Held.{MayHoldAll}
 
 -- each of them may hold what it held

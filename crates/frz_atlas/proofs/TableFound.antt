@@ -3,8 +3,7 @@ use Rattle.std.proofs.Common.{◌≡◌, refl, sym, ap, subst, ◌∙◌, ℕ, �
 use Rattle.frz_board.specs.declared.man.Colour.{Colour}
 use Rattle.frz_board.specs.declared.man.Colour.TheVariants.{White, Black}
 use Rattle.frz_sets.specs.Sets.{size_of}
-use Rattle.frz_graph.specs.EntryCodes.{of_side}
-use Rattle.frz_game.proofs.Lemmas.{plies_few, table_exact}
+use Rattle.frz_check.specs.EntryCodes.{of_side}
 use Rattle.frz_rules.specs.Text.{rules_of}
 use Rattle.frz_rules.proofs.Lemmas.{text_sound}
 use Rattle.frz_store.specs.Bytes.{AreBytes, HoldsBytes}
@@ -20,10 +19,10 @@ use Rattle.frz_table.proofs.Lemmas.{belongs, held_bytes, text_kept}
 use Rattle.frz_check.specs.declared.verdict.Verdict.{Verdict}
 use Rattle.frz_check.specs.Kept.{IsVerdictOn, kept_codes, opened_size}
 use Rattle.frz_check.specs.Verdicts.{IsVerdict}
-use Rattle.frz_check.proofs.Lemmas.{file_opens, same_verdict, verdict_on}
-use Rattle.frz_chain.specs.Books.{Back}
-use Rattle.frz_chain.specs.FileOn.{back_of}
-use Rattle.frz_chain.specs.declared.back.BackTable.{BackTable}
+use Rattle.frz_check.proofs.Lemmas.{file_opens, plies_few, same_verdict, table_exact, verdict_on}
+use Rattle.frz_backs.specs.Books.{Back}
+use Rattle.frz_backs.specs.FileOn.{back_of}
+use Rattle.frz_backs.specs.BackTable.{BackTable}
 use Rattle.frz_backs.specs.Links.{Link, value_over}
 use Rattle.frz_backs.specs.Loaded.{leans_as}
 use Rattle.frz_backs.proofs.Lemmas.{over_small}

@@ -12,7 +12,7 @@ use Rattle.frz_table.specs.Possible.{MayKeep}
 use Rattle.frz_table.specs.Tables.{Table, table_size}
 use Rattle.frz_table.proofs.Lemmas.{belongs, held_bytes, outside_refuses}
 use Rattle.frz_check.proofs.Lemmas.{file_opens}
-use Rattle.frz_chain.specs.declared.back.BackTable.{BackTable}
+use Rattle.frz_backs.specs.BackTable.{BackTable}
 use Rattle.frz_backs.specs.Loaded.{leans_as}
 use Rattle.frz_atlas.specs.Behind.{kind_by, kind_of}
 use Rattle.frz_atlas.specs.Loading.{LoadsOne, RefusesOne, WithinLoadingOne, opened_own}

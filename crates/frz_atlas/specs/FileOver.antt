@@ -4,7 +4,7 @@ use Rattle.frz_sets.specs.Views.{RuleLines}
 use Rattle.frz_table.specs.declared.kind.FileKind.TheVariants.{Atlas}
 use Rattle.frz_table.specs.Layout.{magic_of}
 use Rattle.frz_check.specs.OneFile.{IsOneFile}
-use Rattle.frz_chain.specs.Books.{Back}
+use Rattle.frz_backs.specs.Books.{Back}
 use Rattle.frz_backs.specs.Values.{atlas_value}
 
 -- the bytes are the one file of the text over these tables

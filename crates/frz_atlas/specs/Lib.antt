@@ -8,3 +8,6 @@ pub mod Checking
 pub mod Building
 pub mod Loading
 pub mod Reading
+pub use Rattle.frz_backs.specs.Books
+pub use Rattle.frz_backs.specs.FileOn
+pub use Rattle.frz_backs.specs.Links

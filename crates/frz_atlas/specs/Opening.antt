@@ -11,8 +11,8 @@ use Rattle.frz_table.specs.Possible.{MayHold, held_text}
 use Rattle.frz_table.specs.Tables.{Table}
 use Rattle.frz_check.specs.declared.verdict.Verdict.{Verdict}
 use Rattle.frz_check.specs.declared.verdict.Verdict.TheVariants.{Exact, Wrong as WrongCodes}
-use Rattle.frz_chain.specs.Books.{Back, back_with}
-use Rattle.frz_chain.specs.declared.back.BackTable.{BackTable}
+use Rattle.frz_backs.specs.Books.{Back, back_with}
+use Rattle.frz_backs.specs.BackTable.{BackTable}
 use Rattle.frz_backs.specs.Links.{Link}
 use Rattle.frz_backs.specs.Loaded.{leans_as, link_loaded}
 use Rattle.frz_atlas.specs.Behind.{AreJudged, IsJudgedOver, IsRefusedAt, IsRefusedOver, TableBytes, kind_by, kind_held, kind_of, link_of}

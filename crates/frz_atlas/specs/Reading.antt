@@ -6,7 +6,7 @@ use Rattle.frz_table.specs.declared.kind.FileKind.TheVariants.{Atlas}
 use Rattle.frz_table.specs.Layout.{pieces_of}
 use Rattle.frz_table.specs.Opening.{Contents, contents_of, opened, opening_calls, table_format}
 use Rattle.frz_table.specs.Possible.{MayHold, held_text}
-use Rattle.frz_chain.specs.FileOn.{back_of, loaded_back}
+use Rattle.frz_backs.specs.FileOn.{back_of, loaded_back}
 use Rattle.frz_backs.specs.Loaded.{link_loaded}
 use Rattle.frz_atlas.specs.Behind.{TableBytes, link_of}
 use Rattle.frz_atlas.specs.Checking.{own_size}

@@ -7,8 +7,7 @@ ghost use Rattle.frz_atlas.specs.Causes.{HasAtlasCause};
 ghost use Rattle.frz_atlas.specs.Checking.{ChecksAtlas, RefusesAtlas};
 
 use crate::{AtlasFault, open_behind};
-use frz_backs::AtlasBook;
-use frz_chain::BackTable;
+use frz_backs::{AtlasBook, BackTable};
 use frz_check::{Verdict, check_kept};
 use frz_steps::Steps;
 use frz_store::Store;

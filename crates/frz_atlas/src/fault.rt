@@ -5,7 +5,7 @@ ghost use Rattle.frz_atlas.specs.Causes.{back_fault, fault_of, rules_fault, tabl
 ghost use Rattle.frz_atlas.specs.declared.fault.AtlasFault.TheVariants.{NoMemory as MemoryFault};
 
 use frz_board::NoMemory;
-use frz_game::Wrong;
+use frz_check::Wrong;
 use frz_rules::{RulesError, RulesFault};
 use frz_store::StoreFault;
 use frz_table::TableFault;

@@ -8,7 +8,7 @@ ghost use Rattle.frz_atlas.specs.Loading.{LoadsAll, LoadsOne, RefusesOne, Refuse
 
 use crate::kinds::open_own;
 use crate::{AtlasFault, BackFault};
-use frz_chain::BackTable;
+use frz_backs::BackTable;
 use frz_store::Store;
 use frz_table::TableFault;
 use std::alloc::Global;

@@ -1,14 +1,14 @@
 //! Opens, loads and checks the tables behind another from the left, each over those before it.
 ghost use Rattle.std.specs.Prelude.{◌≡◌, ◌≤◌, ◌+◌, ◌*◌, length, map, IfOk, IfErr};
 ghost use Rattle.std.specs.String.{string_bytes};
-ghost use Rattle.frz_graph.specs.EntryCodes.{of_side};
+ghost use Rattle.frz_check.specs.EntryCodes.{of_side};
 ghost use Rattle.frz_store.specs.Told.{store_of, StoreQuiet};
 ghost use Rattle.frz_table.specs.Faults.{IsOutside};
 ghost use Rattle.frz_table.specs.Layout.{pieces_of};
 ghost use Rattle.frz_table.specs.Possible.{MayKeep};
 ghost use Rattle.frz_table.specs.Tables.{Carries, table_size};
 ghost use Rattle.frz_check.specs.Verdicts.{IsVerdict};
-ghost use Rattle.frz_chain.specs.FileOn.{loaded_back};
+ghost use Rattle.frz_backs.specs.FileOn.{loaded_back};
 ghost use Rattle.frz_backs.specs.Links.{value_over};
 ghost use Rattle.frz_backs.specs.Loaded.{leans_as};
 ghost use Rattle.frz_atlas.specs.Causes.{HasAtlasCause, HasFileCause, HasOneCause};
@@ -16,10 +16,8 @@ ghost use Rattle.frz_atlas.specs.Opening.{GivesBack, OpensAll, OpensOver, Refuse
 
 use crate::kinds::open_own;
 use crate::{AtlasFault, BackFault};
-use frz_backs::AtlasBook;
-use frz_chain::BackTable;
-use frz_check::{CheckedCodes, Verdict, load_checked};
-use frz_exits::RuleBook;
+use frz_backs::{AtlasBook, BackTable};
+use frz_check::{CheckedCodes, RuleBook, Verdict, load_checked};
 use frz_steps::Steps;
 use frz_store::Store;
 use frz_table::{FileKind, TableFault, TableFile};

@@ -7,7 +7,7 @@ ghost use Rattle.frz_atlas.specs.Reading.{LoadsAtlas, RefusesToRead};
 
 use crate::AtlasFault;
 use crate::loading::load_behind;
-use frz_chain::BackTable;
+use frz_backs::BackTable;
 use frz_store::Store;
 use frz_table::{FileKind, open_kind};
 use std::alloc::Global;

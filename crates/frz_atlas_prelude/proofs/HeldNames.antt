@@ -10,7 +10,7 @@ use Rattle.frz_table.specs.Possible.{MayHold}
 use Rattle.frz_atlas.specs.Behind.{AreJudgedOver, IsRefusedAt, TableBytes}
 use Rattle.frz_atlas.specs.Held.{MayHoldAll, all_held}
 use Rattle.frz_atlas.specs.declared.fault.BackFault.{BackFault}
-use Rattle.frz_chain.specs.Books.{Back}
+use Rattle.frz_atlas.specs.Books.{Back}
 use Rattle.frz_atlas_prelude.specs.Names.{has_twice}
 use Rattle.frz_atlas_prelude.specs.Tables.{AreExactOver}
 use Rattle.frz_atlas_prelude.proofs.TablesOnce.{with_table}

@@ -13,10 +13,10 @@ use Rattle.frz_check.specs.declared.verdict.Verdict.TheVariants as verdicts
 use Rattle.frz_check.specs.Kept.{kept_codes}
 use Rattle.frz_check.specs.Verdicts.{IsVerdict}
 use Rattle.frz_check.proofs.Lemmas.{many_codes, one_verdict, verdict_on, verdict_there}
-use Rattle.frz_chain.specs.Books.{Back}
-use Rattle.frz_chain.specs.FileOn.{back_of}
-use Rattle.frz_backs.specs.Links.{value_over}
-use Rattle.frz_backs.proofs.Lemmas.{over_small}
+use Rattle.frz_atlas.specs.Books.{Back}
+use Rattle.frz_atlas.specs.FileOn.{back_of}
+use Rattle.frz_atlas.specs.Links.{value_over}
+use Rattle.frz_atlas.proofs.Lemmas.{over_small}
 use Rattle.frz_atlas.specs.Behind.{IsJudgedOver, IsRefusedAt, IsRefusedOver, TableBytes, kind_held, kind_of, leans}
 use Rattle.frz_atlas.specs.Held.{all_held}
 use Rattle.frz_atlas.specs.declared.fault.BackFault.{BackFault}

@@ -15,7 +15,7 @@ use Rattle.frz_table.specs.Opening.{Contents, opened, table_format}
 use Rattle.frz_table.proofs.Lemmas.{file_bytes, magic_bytes}
 use Rattle.frz_index.specs.Members.{Member}
 use Rattle.frz_check.specs.KeptTables.{KeepsTables}
-use Rattle.frz_atlas.specs.Behind.{backs_in}
+use Rattle.frz_commands_atlas.specs.Behind.{backs_in}
 use Rattle.frz_backs.specs.Values.{atlas_value}
 use Rattle.frz_commands_ask.specs.Meaning.{TellsBounds}
 use Rattle.frz_answer.specs.declared.status.Status.{Status}
@@ -23,7 +23,7 @@ use Rattle.frz_answer.specs.declared.status.Status.TheVariants.{Success}
 use Rattle.frz_answer.specs.Answers.{Answer}
 use Rattle.frz_answer.specs.Jobs.{Job}
 use Rattle.frz_answer.specs.Words.{taking, unless}
-use Rattle.frz_atlas_prelude.specs.Names.{build_names_of, has_twice, table_names_of}
+use Rattle.frz_commands_atlas.specs.Names.{build_names_of, has_twice, table_names_of}
 use Rattle.frz_commands_atlas.specs.Building as builds
 use Rattle.frz_commands_atlas.specs.Building.{MakesAtlas, MeansBuild, building_at}
 use Rattle.frz_commands_atlas.specs.CheckMeans.{HoldsAtlas, MeansCheck, checking_at}

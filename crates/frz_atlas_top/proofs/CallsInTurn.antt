@@ -21,8 +21,8 @@ use Rattle.frz_commands_ask.specs.Meaning.{TellsBounds}
 use Rattle.frz_commands_ask.specs.Querying as queries
 use Rattle.frz_commands_ask.specs.Querying.{MeansQuery, TellsKept, querying_at}
 use Rattle.frz_commands_ask.proofs.Lemmas.{at_position, query_answered}
-use Rattle.frz_atlas_prelude.specs.Names.{has_twice, table_names_of}
-use Rattle.frz_atlas_prelude.specs.declared.names.TheConstants.{MOST_BACKS}
+use Rattle.frz_commands_atlas.specs.Names.{has_twice, table_names_of}
+use Rattle.frz_commands_atlas.specs.Limits.{MOST_BACKS}
 use Rattle.frz_commands_atlas.specs.AtlasHeadline.{AtlasHeadline}
 use Rattle.frz_commands_atlas.specs.CheckMeans as checks
 use Rattle.frz_commands_atlas.specs.CheckMeans.{MeansCheck, TellsExactOver, checking_at}

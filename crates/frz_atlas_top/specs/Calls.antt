@@ -6,7 +6,7 @@ use Rattle.frz_fen.specs.Reading.{fen_of}
 use Rattle.frz_index.specs.Members.{Member}
 use Rattle.frz_store.specs.Bytes.{HoldsBytes}
 use Rattle.frz_store.specs.Files.{Files}
-use Rattle.frz_atlas.specs.Behind.{backs_in}
+use Rattle.frz_commands_atlas.specs.Behind.{backs_in}
 use Rattle.frz_backs.specs.Links.{backs_of}
 use Rattle.frz_backs.specs.Values.{atlas_value}
 use Rattle.frz_answer.specs.declared.status.Status.TheVariants.{Success}

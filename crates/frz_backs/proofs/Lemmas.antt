@@ -9,3 +9,4 @@ pub use Rattle.frz_backs.proofs.SmallLags.{atlas_small, first_small, over_small}
 pub use Rattle.frz_backs.proofs.TablePlies.{TellsWithin, over_forced}
 pub use Rattle.frz_backs.proofs.Transfer.{codes_tell}
 pub use Rattle.frz_backs.proofs.TrueTables.{TellsTrue, exits_over_true, first_true, link_true, over_true, tables_true}
+pub use Rattle.frz_chain.proofs.Lemmas.{builds_after, costs_added, costs_kept, number_inside, number_outside, quiet_same, still_held}

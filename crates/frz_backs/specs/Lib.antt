@@ -5,3 +5,7 @@ pub mod LinkPlies
 pub mod Decided
 pub mod ExactOver
 pub mod Codes
+pub use Rattle.frz_chain.specs.Books
+pub use Rattle.frz_chain.specs.Building
+pub use Rattle.frz_chain.specs.FileOn
+pub use Rattle.frz_chain.specs.declared.back.BackTable

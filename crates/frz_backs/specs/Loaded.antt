@@ -1,7 +1,7 @@
 -- A loaded table as one of several, each of which may lean on those before it.
 use Rattle.std.specs.Prelude.{Bool, true, false}
-use Rattle.frz_table.specs.declared.kind.FileKind.{FileKind}
-use Rattle.frz_table.specs.declared.kind.FileKind.TheVariants.{Plain, Chained, Atlas}
+use Rattle.frz_chain.specs.FileKind.{FileKind}
+use Rattle.frz_chain.specs.FileKind.TheVariants.{Plain, Chained, Atlas}
 use Rattle.frz_chain.specs.FileOn.{loaded_back}
 use Rattle.frz_chain.specs.declared.back.BackTable.{BackTable}
 use Rattle.frz_backs.specs.Links.{Link}

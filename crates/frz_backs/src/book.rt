@@ -8,10 +8,10 @@ ghost use Rattle.frz_chain.specs.FileOn.{loaded_back};
 ghost use Rattle.frz_backs.specs.Values.{atlas_value, first_value};
 
 use crate::codes::codes_on;
-use frz_bits::Bitboards;
 use frz_board::Position;
 use frz_chain::{BackTable, pair_value};
 use frz_exits::{ExitBook, RuleBook};
+use frz_fide::Bitboards;
 use frz_sets::{Rules, Value};
 
 /// A book, the rule that gives each exit its value: by the exit lines of the rules and, where these

@@ -5,8 +5,8 @@ ghost use Rattle.frz_fide.specs.Valid.{IsValid};
 ghost use Rattle.frz_chain.specs.FileOn.{loaded_back};
 ghost use Rattle.frz_backs.specs.Codes.{codes_of};
 
-use frz_bits::Bitboards;
 use frz_chain::BackTable;
+use frz_fide::Bitboards;
 
 /// White's code and Black's of the position. `None` exactly where the set of the table does not
 /// hold it.

@@ -8,3 +8,4 @@ pub mod laws;
 
 pub use book::AtlasBook;
 pub use codes::codes_on;
+pub use frz_chain::{BackTable, NewTable, ReadRules, build_ruled};

@@ -13,6 +13,7 @@ mod square;
 mod step;
 mod text;
 
+pub use frz_squares::SquareSet;
 pub use man::{Colour, Kind, Man, cell_of, man_of};
 pub use memory::NoMemory;
 pub use passing::target_in_place;

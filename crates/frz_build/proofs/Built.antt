@@ -5,9 +5,9 @@ use Rattle.frz_board.specs.Boards.{Board}
 use Rattle.frz_sets.specs.declared.exit.Value.{Value}
 use Rattle.frz_sets.specs.Views.{RuleLines}
 use Rattle.frz_sets.specs.Sets.{size_of}
-use Rattle.frz_game.specs.Bounds.{IsTableOf}
-use Rattle.frz_game.specs.SmallLags.{HasSmallLags}
-use Rattle.frz_game.proofs.Lemmas.{table_there}
+use Rattle.frz_check.specs.Bounds.{IsTableOf}
+use Rattle.frz_check.specs.SmallLags.{HasSmallLags}
+use Rattle.frz_check.proofs.Lemmas.{table_there}
 use Rattle.frz_store.specs.Told.{StoreTold}
 use Rattle.frz_store.specs.Writes.{Written}
 use Rattle.frz_store.specs.declared.outside.StoreFault.{StoreFault}

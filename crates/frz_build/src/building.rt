@@ -3,8 +3,8 @@ ghost use Rattle.std.specs.Prelude.{◌≡◌, ◌+◌, ◌*◌, ◌^◌, ◌≤
 ghost use Rattle.frz_board.specs.declared.man.Colour.TheVariants.{Black, White};
 ghost use Rattle.frz_sets.specs.Sets.{size_of};
 ghost use Rattle.frz_sets.specs.Sound.{IsSound};
-ghost use Rattle.frz_game.specs.Bounds.{IsTableOf};
-ghost use Rattle.frz_game.specs.Games.{graph_by};
+ghost use Rattle.frz_check.specs.Bounds.{IsTableOf};
+ghost use Rattle.frz_check.specs.Games.{graph_by};
 ghost use Rattle.frz_retro.specs.Notes.{AreNoted};
 ghost use Rattle.frz_store.specs.Told.{store_of};
 ghost use Rattle.frz_store.specs.Writes.{Appended};
@@ -14,9 +14,8 @@ ghost use Rattle.frz_build.specs.Building.{Builds, writing_calls};
 
 use crate::{append_codes, begin_table};
 use frz_board::Colour;
-use frz_exits::ExitBook;
-use frz_game::Game;
-use frz_game::laws::tables::tables;
+use frz_check::laws::tables;
+use frz_check::{ExitBook, Game};
 use frz_retro::BothSides;
 use frz_steps::Steps;
 use frz_store::{Failed, Store, StoreFault};

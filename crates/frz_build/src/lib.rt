@@ -7,5 +7,6 @@ mod ruled;
 mod writing;
 
 pub use building::{NewTable, build_table};
+pub use frz_check::{CheckedCodes, Verdict, check_kept, load_checked};
 pub use ruled::build_ruled;
 pub use writing::{append_codes, begin_table};

@@ -7,12 +7,11 @@ ghost use Rattle.frz_table.specs.Layout.{magic_of};
 ghost use Rattle.frz_build.specs.Building.{Builds, writing_calls};
 
 use crate::{NewTable, build_table};
-use frz_exits::ExitBook;
-use frz_game::Game;
-use frz_index::Set;
+use frz_check::{ExitBook, Game};
 use frz_sets::Rules;
 use frz_steps::Steps;
 use frz_store::{Store, StoreFault};
+use frz_table::Set;
 use std::alloc::Global;
 use std::sync::ledger::Ledger;
 

@@ -3,7 +3,7 @@ use Rattle.std.proofs.Common.{◌≡◌, refl, sym, ap, subst, ◌∙◌, ℕ, �
 use Rattle.frz_board.specs.declared.man.Colour.{Colour}
 use Rattle.frz_board.specs.declared.man.Colour.TheVariants.{White, Black}
 use Rattle.frz_exits.specs.Books.{value_by}
-use Rattle.frz_graph.specs.EntryCodes.{of_side}
+use Rattle.frz_game.specs.EntryCodes.{of_side}
 use Rattle.frz_game.proofs.Lemmas.{table_exact}
 use Rattle.frz_rules.specs.Text.{rules_of}
 use Rattle.frz_store.specs.Bytes.{AreBytes, HoldsBytes}
@@ -17,11 +17,11 @@ use Rattle.frz_table.specs.Opening.{Contents, Refuses, contents_of, opened, tabl
 use Rattle.frz_table.specs.Possible.{MayHold, MayKeep, MayOpen}
 use Rattle.frz_table.specs.Tables.{Table, table_size}
 use Rattle.frz_table.proofs.Lemmas.{belongs, held_bytes}
-use Rattle.frz_check.specs.declared.verdict.Verdict.{Verdict}
-use Rattle.frz_check.specs.declared.verdict.Verdict.TheVariants.{Exact}
-use Rattle.frz_check.specs.Kept.{WithinFile, kept_codes}
-use Rattle.frz_check.specs.Verdicts.{IsVerdict}
-use Rattle.frz_check.proofs.Lemmas.{few_plies, file_not_loaded, file_opens, same_verdict, verdict_on, within_file}
+use Rattle.frz_build.specs.Verdict.{Verdict}
+use Rattle.frz_build.specs.Verdict.TheVariants.{Exact}
+use Rattle.frz_build.specs.Kept.{WithinFile, kept_codes}
+use Rattle.frz_build.specs.Verdicts.{IsVerdict}
+use Rattle.frz_build.proofs.Lemmas.{few_plies, file_not_loaded, file_opens, same_verdict, verdict_on, within_file}
 use Rattle.frz_chain.specs.Backs.{GivesBack, IsBackJudged, IsRefusedBack, KeepsTable, OpensBack, RefusesBack}
 use Rattle.frz_chain.specs.Books.{Back, back_with}
 use Rattle.frz_chain.specs.Causes.{back_fault}

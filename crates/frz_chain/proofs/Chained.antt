@@ -15,10 +15,9 @@ use Rattle.frz_store.specs.declared.outside.StoreFault.TheVariants as store
 use Rattle.frz_table.specs.declared.kind.FileKind.TheVariants.{Chained}
 use Rattle.frz_table.specs.Layout.{magic_of}
 use Rattle.frz_game.proofs.Lemmas.{table_there}
-use Rattle.frz_check.proofs.Lemmas.{file_there}
-use Rattle.frz_check.specs.Kept.{WithinFile}
+use Rattle.frz_build.specs.Kept.{WithinFile}
 use Rattle.frz_build.specs.Building.{Builds, writing_calls}
-use Rattle.frz_build.proofs.Lemmas.{builds_after, costs_added, costs_kept, quiet_same, still_held}
+use Rattle.frz_build.proofs.Lemmas.{builds_after, costs_added, costs_kept, file_there, quiet_same, still_held}
 use Rattle.frz_chain.specs.Backs.{IsRefusedBack, OpensBack, RefusesBack}
 use Rattle.frz_chain.specs.Books.{Back, chain_value}
 use Rattle.frz_chain.specs.Causes.{HasChainCause, fault_of, rules_fault}

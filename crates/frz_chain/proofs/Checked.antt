@@ -11,9 +11,9 @@ use Rattle.frz_table.specs.Layout.{pieces_of}
 use Rattle.frz_table.specs.Opening.{Contents, Refuses, contents_of, kept_text, opened, opening_calls, table_format}
 use Rattle.frz_table.specs.Possible.{MayHold, MayOpen, MayRefuse}
 use Rattle.frz_table.specs.Tables.{Table, table_size}
-use Rattle.frz_check.proofs.Lemmas.{file_opens}
+use Rattle.frz_build.proofs.Lemmas.{file_opens}
 use Rattle.frz_table.proofs.Lemmas.{belongs, opened_calls, text_kept}
-use Rattle.frz_check.specs.Kept.{ChecksTable, IsVerdictOn, WithinFile}
+use Rattle.frz_build.specs.Kept.{ChecksTable, IsVerdictOn, WithinFile}
 use Rattle.frz_chain.specs.Backs.{IsRefusedBack, OpensBack, RefusesBack}
 use Rattle.frz_chain.specs.Books.{Back, chain_value}
 use Rattle.frz_chain.specs.Causes.{IsOutsideFault, table_fault}

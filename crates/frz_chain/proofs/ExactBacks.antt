@@ -13,9 +13,9 @@ use Rattle.frz_sets.specs.Sets.{size_of}
 use Rattle.frz_table.specs.declared.fault.TableFault.{TableFault}
 use Rattle.frz_table.specs.declared.kind.FileKind.TheVariants.{Plain}
 use Rattle.frz_table.specs.Opening.{Contents, opened, table_format}
-use Rattle.frz_check.specs.declared.verdict.Verdict.TheVariants as verdict
-use Rattle.frz_check.specs.Kept.{kept_codes}
-use Rattle.frz_check.specs.Verdicts.{AgreeAt, IsFirstWrong, given_code, kept_code}
+use Rattle.frz_build.specs.Verdict.TheVariants as verdict
+use Rattle.frz_build.specs.Kept.{kept_codes}
+use Rattle.frz_build.specs.Verdicts.{AgreeAt, IsFirstWrong, given_code, kept_code}
 use Rattle.frz_chain.specs.Backs.{HasWrong, IsBackJudged}
 use Rattle.frz_chain.specs.ExactBacks.{agree_at, all_agree, if_exact, is_exact, is_exact_by}
 

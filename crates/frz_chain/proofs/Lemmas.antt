@@ -9,3 +9,4 @@ pub use Rattle.frz_chain.proofs.TablePlies.{ExitsForced, Forced, back_forced, fo
 pub use Rattle.frz_chain.proofs.Told.{holds_of_either_value, number_below, number_inside, number_outside}
 pub use Rattle.frz_chain.proofs.TrueValues.{back_true, chained_true}
 pub use Rattle.frz_chain.proofs.Transfer.{tells_chess, true_tells}
+pub use Rattle.frz_build.proofs.Lemmas.{builds_after, costs_added, costs_kept, quiet_same, still_held}

@@ -8,10 +8,10 @@ use Rattle.frz_table.specs.declared.kind.FileKind.TheVariants.{Plain}
 use Rattle.frz_table.specs.Numbers.{AreBytes}
 use Rattle.frz_table.specs.Opening.{Contents, contents_of, opened, table_format}
 use Rattle.frz_table.specs.Possible.{MayHold}
-use Rattle.frz_check.specs.declared.verdict.Verdict.{Verdict}
-use Rattle.frz_check.specs.declared.verdict.Verdict.TheVariants.{Exact, Wrong}
-use Rattle.frz_check.specs.Kept.{IsVerdictOn, WithinFile, kept_codes}
-use Rattle.frz_check.specs.Verdicts.{IsVerdict}
+use Rattle.frz_build.specs.Verdict.{Verdict}
+use Rattle.frz_build.specs.Verdict.TheVariants.{Exact, Wrong}
+use Rattle.frz_build.specs.Kept.{IsVerdictOn, WithinFile, kept_codes}
+use Rattle.frz_build.specs.Verdicts.{IsVerdict}
 use Rattle.frz_chain.specs.Books.{Back}
 use Rattle.frz_chain.specs.FileOn.{back_of, loaded_back}
 use Rattle.frz_chain.specs.declared.back.BackTable.{BackTable}

@@ -13,9 +13,9 @@ use Rattle.frz_table.specs.Layout.{pieces_of}
 use Rattle.frz_table.specs.Numbers.{AreBytes}
 use Rattle.frz_table.specs.Opening.{Contents, opened, opening_calls, table_format}
 use Rattle.frz_table.specs.Possible.{MayHold, held_text}
-use Rattle.frz_check.specs.declared.verdict.Verdict.{Verdict}
-use Rattle.frz_check.specs.declared.verdict.Verdict.TheVariants as verdicts
-use Rattle.frz_check.specs.Kept.{IsVerdictOn, opened_size}
+use Rattle.frz_build.specs.Verdict.{Verdict}
+use Rattle.frz_build.specs.Verdict.TheVariants as verdicts
+use Rattle.frz_build.specs.Kept.{IsVerdictOn, opened_size}
 use Rattle.frz_build.specs.Building.{writing_calls}
 use Rattle.frz_chain.specs.Backs.{IsBackJudged, IsRefusedBack}
 use Rattle.frz_chain.specs.Books.{chain_value}

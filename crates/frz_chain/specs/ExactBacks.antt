@@ -9,8 +9,8 @@ use Rattle.frz_game.specs.Games.{graph_by}
 use Rattle.frz_table.specs.declared.fault.TableFault.{TableFault}
 use Rattle.frz_table.specs.declared.kind.FileKind.TheVariants.{Plain}
 use Rattle.frz_table.specs.Opening.{Contents, opened, table_format}
-use Rattle.frz_check.specs.Kept.{kept_codes}
-use Rattle.frz_check.specs.Verdicts.{given_code, kept_code}
+use Rattle.frz_build.specs.Kept.{kept_codes}
+use Rattle.frz_build.specs.Verdicts.{given_code, kept_code}
 
 -- the codes of both sides at the number are their local codes
 abbrev pub agree_at : {M V : Type 0} → Arena M ℕ V → (Colour → List ℕ) → ℕ → Bool

@@ -8,8 +8,8 @@ use Rattle.frz_game.specs.Bounds.{IsTableOf}
 use Rattle.frz_table.specs.declared.kind.FileKind.TheVariants.{Chained}
 use Rattle.frz_table.specs.Layout.{magic_of}
 use Rattle.frz_table.specs.Opening.{Contents}
-use Rattle.frz_check.specs.Kept.{kept_codes}
-use Rattle.frz_check.specs.OneFile.{IsOneFile}
+use Rattle.frz_build.specs.Kept.{kept_codes}
+use Rattle.frz_build.specs.OneFile.{IsOneFile}
 use Rattle.frz_chain.specs.Books.{Back, chain_value}
 use Rattle.frz_chain.specs.declared.back.BackTable.{BackTable}
 

@@ -8,3 +8,5 @@ pub mod Chains
 pub mod Transfer
 pub mod ChainPlies
 pub mod DecidedBacks
+pub use Rattle.frz_build.specs.Building
+pub use Rattle.frz_table.specs.declared.kind.FileKind

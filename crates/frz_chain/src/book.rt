@@ -8,9 +8,9 @@ ghost use Rattle.frz_sets.specs.Sound.{IsSound};
 ghost use Rattle.frz_chain.specs.Books.{back_value, back_with, chain_value};
 
 use crate::pair::pair_value;
-use frz_bits::Bitboards;
 use frz_board::Position;
 use frz_exits::{ExitBook, RuleBook};
+use frz_fide::Bitboards;
 use frz_index::Set;
 use frz_sets::{Rules, Value};
 

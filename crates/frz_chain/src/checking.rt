@@ -4,13 +4,13 @@ ghost use Rattle.frz_sets.specs.Sets.{size_of};
 ghost use Rattle.frz_store.specs.Told.{store_of, StoreQuiet};
 ghost use Rattle.frz_table.specs.Layout.{pieces_of};
 ghost use Rattle.frz_table.specs.Tables.{Carries, table_size};
-ghost use Rattle.frz_check.specs.Kept.{ChecksTable};
+ghost use Rattle.frz_build.specs.Kept.{ChecksTable};
 ghost use Rattle.frz_chain.specs.Books.{chain_value};
 ghost use Rattle.frz_chain.specs.Causes.{HasChainCause, IsOutsideFault};
 ghost use Rattle.frz_chain.specs.FileOn.{loaded_back};
 
 use crate::{BackTable, ChainFault, open_back};
-use frz_check::{Verdict, check_kept};
+use frz_build::{Verdict, check_kept};
 use frz_game::Wrong;
 use frz_steps::Steps;
 use frz_store::Store;

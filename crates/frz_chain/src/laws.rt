@@ -20,7 +20,7 @@ ghost use Rattle.frz_game.specs.declared.wrong.Wrong.{Wrong};
 ghost use Rattle.frz_table.specs.declared.fault.TableFault.{TableFault};
 ghost use Rattle.frz_table.specs.declared.kind.FileKind.TheVariants.{Plain};
 ghost use Rattle.frz_table.specs.Opening.{Contents, opened, table_format};
-ghost use Rattle.frz_check.specs.declared.verdict.Verdict.TheVariants.{Exact};
+ghost use Rattle.frz_build.specs.Verdict.TheVariants.{Exact};
 ghost use Rattle.frz_chain.specs.Backs.{HasWrong, IsBackJudged};
 ghost use Rattle.frz_chain.specs.Books.{Back, back_value, chain_value};
 ghost use Rattle.frz_chain.specs.ExactBacks.{is_exact};

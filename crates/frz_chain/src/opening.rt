@@ -8,7 +8,7 @@ ghost use Rattle.frz_chain.specs.Causes.{HasChainCause};
 ghost use Rattle.frz_chain.specs.FileOn.{loaded_back};
 
 use crate::{BackTable, ChainFault};
-use frz_check::{CheckedCodes, Verdict, load_checked};
+use frz_build::{CheckedCodes, Verdict, load_checked};
 use frz_exits::RuleBook;
 use frz_steps::Steps;
 use frz_store::Store;

@@ -8,11 +8,10 @@ use Rattle.frz_sets.specs.Sound.{IsSound}
 use Rattle.frz_sets.specs.Views.{RuleLines}
 use Rattle.frz_rules.specs.Text.{rules_of}
 use Rattle.frz_rules.proofs.Lemmas.{text_sound}
-use Rattle.frz_exits.specs.Books.{value_by}
-use Rattle.frz_exits.proofs.Lemmas.{small_values}
+use Rattle.frz_game.specs.Books.{value_by}
 use Rattle.frz_game.specs.Bounds.{IsTableOf}
 use Rattle.frz_game.specs.SmallLags.{HasSmallLags}
-use Rattle.frz_game.proofs.Lemmas.{plies_few}
+use Rattle.frz_game.proofs.Lemmas.{plies_few, small_values}
 use Rattle.frz_table.specs.declared.kind.FileKind.TheVariants.{Plain}
 use Rattle.frz_table.specs.Layout.{magic_of}
 use Rattle.frz_table.specs.Opening.{Contents}

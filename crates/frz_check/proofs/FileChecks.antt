@@ -7,8 +7,8 @@ use Rattle.frz_board.specs.declared.man.Colour.TheVariants.{White, Black}
 use Rattle.frz_sets.specs.declared.exit.Value.{Value}
 use Rattle.frz_sets.specs.Sets.{size_of}
 use Rattle.frz_sets.specs.Views.{RuleLines}
-use Rattle.frz_exits.specs.Books.{value_by}
-use Rattle.frz_graph.specs.EntryCodes.{of_side}
+use Rattle.frz_game.specs.Books.{value_by}
+use Rattle.frz_game.specs.EntryCodes.{of_side}
 use Rattle.frz_rules.specs.Text.{rules_of}
 use Rattle.frz_store.specs.Bytes.{HoldsBytes}
 use Rattle.frz_store.specs.Files.{Files}

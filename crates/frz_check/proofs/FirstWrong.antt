@@ -11,7 +11,7 @@ use Rattle.frz_arena.specs.declared.node.Node.{Node}
 use Rattle.frz_arena.specs.Arena.{Arena}
 use Rattle.frz_arena.specs.LocalCodes.{local_code}
 use Rattle.frz_arena.specs.Tables.{IsExact}
-use Rattle.frz_graph.specs.EntryCodes.{IsWithin}
+use Rattle.frz_game.specs.EntryCodes.{IsWithin}
 use Rattle.frz_game.specs.declared.wrong.Wrong.{Wrong}
 use Rattle.frz_check.specs.Entries.{IsCheckedAt, IsCompared, IsWrongAt, code_by_moves}
 use Rattle.frz_check.specs.Verdicts.{AgreeAt, IsFirstWrong, given_code, kept_code}

@@ -9,7 +9,7 @@ use Rattle.frz_sets.specs.declared.exit.Value.{Value}
 use Rattle.frz_sets.specs.Sets.{size_of}
 use Rattle.frz_sets.specs.Views.{RuleLines}
 use Rattle.frz_store.specs.Files.{Files}
-use Rattle.frz_index.specs.Members.{Member, Num}
+use Rattle.frz_game.specs.Members.{Member, Num}
 use Rattle.frz_game.specs.Bounds.{IsTableOf}
 use Rattle.frz_game.proofs.Lemmas.{bound_means, stored_bound}
 use Rattle.frz_table.specs.declared.fault.TableFault.{TableFault}

@@ -18,3 +18,4 @@ pub use Rattle.frz_check.proofs.OneFile.{
   one_text,
   verdict_on,
 }
+pub use Rattle.frz_game.proofs.Lemmas.{plies_few, table_exact, table_there}

@@ -8,8 +8,8 @@ use Rattle.frz_arena.specs.declared.arm.Arm.{Arm}
 use Rattle.frz_arena.specs.declared.node.Node.{Node}
 use Rattle.frz_arena.specs.Arena.{Arena}
 use Rattle.frz_arena.specs.LocalCodes.{node_code}
-use Rattle.frz_graph.specs.EntryCodes.{arm_code}
-use Rattle.frz_graph.specs.FreeCodes.{free_among}
+use Rattle.frz_game.specs.EntryCodes.{arm_code}
+use Rattle.frz_game.specs.FreeCodes.{free_among}
 use Rattle.frz_game.specs.declared.wrong.Wrong.{Wrong}
 use Rattle.frz_check.specs.Verdicts.{AgreeAt, kept_code, given_code}
 

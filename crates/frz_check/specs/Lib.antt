@@ -3,3 +3,9 @@ pub mod Verdicts
 pub mod Entries
 pub mod Kept
 pub mod KeptTables
+pub use Rattle.frz_game.specs.Books
+pub use Rattle.frz_game.specs.Bounds
+pub use Rattle.frz_game.specs.EntryCodes
+pub use Rattle.frz_game.specs.Games
+pub use Rattle.frz_game.specs.SmallLags
+pub use Rattle.frz_game.specs.declared.wrong.Wrong

@@ -2,7 +2,7 @@
 ghost use Rattle.std.specs.Prelude.{◌≡◌, ◌↔◌, ◌≤◌, ◌<◌, ◌+◌, All, length, slice_index};
 ghost use Rattle.frz_board.specs.declared.man.Colour.{Colour};
 ghost use Rattle.frz_board.specs.declared.man.Colour.TheVariants.{White};
-ghost use Rattle.frz_graph.specs.EntryCodes.{IsWithin};
+ghost use Rattle.frz_game.specs.EntryCodes.{IsWithin};
 ghost use Rattle.frz_sets.specs.Sets.{size_of};
 ghost use Rattle.frz_sets.specs.Sound.{IsSound};
 ghost use Rattle.frz_game.specs.Bounds.{IsTableOf};
@@ -12,11 +12,10 @@ ghost use Rattle.frz_check.specs.Verdicts.{IsVerdict, IsVerdictOver};
 
 use crate::Verdict;
 use frz_board::Colour;
-use frz_exits::ExitBook;
 use frz_game::laws::numbers::numbered;
 use frz_game::laws::tables::tables;
-use frz_game::{Entries, Game, Lists, NextList, Node, NumberedGame, Wrong, local_by};
-use frz_graph::laws::{filled, within};
+use frz_game::laws::{filled, within};
+use frz_game::{Entries, ExitBook, Game, Lists, NextList, Node, NumberedGame, Wrong, local_by};
 use frz_steps::Steps;
 use std::sync::ledger::Ledger;
 

@@ -19,7 +19,7 @@ ghost use Rattle.frz_check.specs.Kept.{kept_codes};
 ghost use Rattle.frz_check.specs.OneFile.{IsOneFile};
 ghost use Rattle.frz_check.specs.Verdicts.{IsVerdict};
 
-use frz_game::laws::tables::tables;
+pub use frz_game::laws::tables::tables;
 
 /// Any codes, one a side for each number, have exactly one verdict.
 pub fn one_verdict()

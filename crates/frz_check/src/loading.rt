@@ -1,6 +1,6 @@
 //! The codes of an open table, loaded and checked.
 ghost use Rattle.std.specs.Prelude.{◌≡◌, ◌≤◌, ◌+◌, ◌*◌, length, IfOk, IfErr, OnErr};
-ghost use Rattle.frz_graph.specs.EntryCodes.{of_side};
+ghost use Rattle.frz_game.specs.EntryCodes.{of_side};
 ghost use Rattle.frz_store.specs.Told.{store_of, StoreQuiet};
 ghost use Rattle.frz_table.specs.Faults.{IsOutside, TableCauses};
 ghost use Rattle.frz_table.specs.Layout.{pieces_of};
@@ -10,9 +10,8 @@ ghost use Rattle.frz_check.specs.Kept.{ChecksTable};
 ghost use Rattle.frz_check.specs.Verdicts.{IsVerdict};
 
 use crate::{Verdict, check_entries};
-use frz_exits::ExitBook;
 use frz_game::laws::tables::tables;
-use frz_game::{Game, Pair};
+use frz_game::{ExitBook, Game, Pair};
 use frz_steps::Steps;
 use frz_store::Store;
 use frz_table::{TableFault, TableFile};

@@ -7,7 +7,7 @@ ghost use Rattle.frz_table.specs.Tables.{Carries, table_size};
 ghost use Rattle.frz_check.specs.Kept.{ChecksFile, ChecksTable, RefusesFile};
 
 use crate::{Verdict, load_checked};
-use frz_exits::{ExitBook, RuleBook};
+use frz_game::{ExitBook, RuleBook};
 use frz_steps::Steps;
 use frz_store::Store;
 use frz_table::{TableFault, TableFile, open_table};

@@ -19,7 +19,7 @@ use Rattle.frz_check.specs.declared.verdict.Verdict.{Verdict}
 use Rattle.frz_check.specs.declared.verdict.Verdict.TheVariants as verdicts
 use Rattle.frz_check.specs.Kept.{kept_codes}
 use Rattle.frz_check.proofs.Lemmas.{one_file_holds, one_file_opens, tables_are_one}
-use Rattle.frz_chain.specs.Books.{Back}
+use Rattle.frz_backs.specs.Books.{Back}
 use Rattle.frz_backs.specs.Links.{AreExact, Link, backs_of}
 use Rattle.frz_backs.specs.Values.{atlas_value}
 use Rattle.frz_backs.proofs.Lemmas.{atlas_small, exits_over_true, mates_within, outcomes_over, tables_decide}

@@ -5,7 +5,7 @@ ghost use Rattle.std.specs.String.{string_bytes};
 ghost use Rattle.frz_graph.specs.EntryCodes.{of_side};
 ghost use Rattle.frz_store.specs.Told.{SourceTold, store_of, sink_of};
 ghost use Rattle.frz_table.specs.Tables.{table_size};
-ghost use Rattle.frz_chain.specs.FileOn.{loaded_back};
+ghost use Rattle.frz_backs.specs.FileOn.{loaded_back};
 ghost use Rattle.frz_backs.specs.Values.{atlas_value};
 ghost use Rattle.frz_report.specs.Reports.{WritesReport};
 ghost use Rattle.frz_answer.specs.World.{world};

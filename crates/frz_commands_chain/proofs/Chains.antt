@@ -6,7 +6,7 @@ use Rattle.frz_sets.specs.Views.{RuleLines}
 use Rattle.frz_answer.specs.Jobs.{WithinCosts}
 use Rattle.frz_answer.specs.World.{World, Agrees, spent}
 use Rattle.frz_answer.proofs.Lemmas.{Stages}
-use Rattle.frz_build.specs.Building.{writing_calls}
+use Rattle.frz_chain.specs.Building.{writing_calls}
 use Rattle.frz_chain.specs.ExactBacks.{if_exact, is_exact}
 use Rattle.frz_chain.specs.FileOn.{loaded_back}
 use Rattle.frz_chain.proofs.Lemmas.{all_if_exact}

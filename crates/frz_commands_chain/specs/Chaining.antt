@@ -15,7 +15,7 @@ use Rattle.frz_prelude.specs.declared.refused.Refused.{Refused}
 use Rattle.frz_sets.specs.Views.{RuleLines}
 use Rattle.frz_sets.specs.Sets.{size_of}
 use Rattle.frz_rules.specs.Text.{rules_of}
-use Rattle.frz_build.specs.Building.{writing_calls}
+use Rattle.frz_chain.specs.Building.{writing_calls}
 use Rattle.frz_chain.specs.Books.{Back}
 use Rattle.frz_chain.specs.ExactBacks.{if_exact}
 use Rattle.frz_chain.specs.FileOn.{IsFileOn}

@@ -5,3 +5,4 @@ pub mod Chaining
 pub mod Checking
 pub mod ChainHeadline
 pub mod CheckMeans
+pub use Rattle.frz_chain.specs.Books

@@ -4,7 +4,7 @@ use Rattle.frz_board.specs.Boards.{Board}
 use Rattle.frz_index.specs.Members.{Member}
 use Rattle.frz_store.specs.Told.{SinkTold, SourceTold, StoreFine, StoreQuiet, StoreTold}
 use Rattle.frz_table.specs.Opening.{contents_of}
-use Rattle.frz_chain.specs.declared.back.BackTable.{BackTable}
+use Rattle.frz_backs.specs.BackTable.{BackTable}
 use Rattle.frz_backs.specs.Loaded.{link_loaded}
 use Rattle.frz_atlas.specs.Behind.{TableBytes, link_of}
 use Rattle.frz_atlas.specs.Held.{all_held}

@@ -6,7 +6,7 @@ use Rattle.frz_store.specs.Files.{Files, bytes_at}
 use Rattle.frz_table.specs.declared.fault.TableFault.{TableFault}
 use Rattle.frz_table.specs.declared.kind.FileKind.TheVariants.{Atlas}
 use Rattle.frz_table.specs.Opening.{Contents, opened, table_format}
-use Rattle.frz_chain.specs.FileOn.{back_of}
+use Rattle.frz_backs.specs.FileOn.{back_of}
 use Rattle.frz_backs.specs.Links.{Link}
 use Rattle.frz_atlas.specs.Behind.{TableBytes, link_of}
 use Rattle.frz_atlas.specs.Loading.{opened_all}

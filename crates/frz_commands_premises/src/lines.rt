@@ -8,9 +8,8 @@ ghost use Rattle.frz_commands_premises.specs.PremiseLines as words;
 ghost use Rattle.frz_commands_premises.specs.PremiseLines.{behind_lines, belief_among, lines_by, strength_over, text_link_loaded, text_lines};
 
 use crate::line::Line;
-use frz_backs::AtlasBook;
+use frz_backs::{AtlasBook, BackTable};
 use frz_board::Colour;
-use frz_chain::BackTable;
 use frz_exit_lines::exit_line_numbers;
 use frz_game::Game;
 use frz_index::Set;

@@ -13,7 +13,7 @@ use Rattle.frz_exits.proofs.Lemmas.{first_fits, none_fits}
 use Rattle.frz_index.specs.Membership.{is_member}
 use Rattle.frz_index.proofs.Lemmas.{number_missing, number_there}
 use Rattle.frz_rules.specs.Text.{rules_of}
-use Rattle.frz_chain.specs.Books.{Back, back_value, or_else, told_at}
+use Rattle.frz_backs.specs.Books.{Back, back_value, or_else, told_at}
 use Rattle.frz_backs.specs.Values.{atlas_value, first_value, told_or}
 use Rattle.frz_backs.proofs.Lemmas.{front_tells, none_tell}
 use Rattle.frz_exit_lines.specs.Numbers.{exit_numbers_of}

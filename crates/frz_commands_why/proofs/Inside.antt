@@ -11,7 +11,7 @@ use Rattle.frz_game.specs.Numbers.{position_at}
 use Rattle.frz_rules.specs.Text.{rules_of}
 use Rattle.frz_store.specs.Told.{SinkTold}
 use Rattle.frz_table.proofs.Lemmas.{read_short}
-use Rattle.frz_chain.specs.declared.back.BackTable.{BackTable}
+use Rattle.frz_backs.specs.BackTable.{BackTable}
 use Rattle.frz_answer.specs.declared.end.End.{End}
 use Rattle.frz_answer.specs.Ends.{Said}
 use Rattle.frz_prelude.specs.Positions.{IsPlaced}

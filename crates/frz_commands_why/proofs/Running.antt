@@ -15,9 +15,9 @@ use Rattle.frz_store.specs.Told.{StoreTold, SourceTold, SinkTold, StoreFine, Sto
 use Rattle.frz_table.specs.declared.fault.TableFault.{TableFault}
 use Rattle.frz_table.specs.Opening.{Contents, contents_of}
 use Rattle.frz_check.specs.Kept.{kept_codes}
-use Rattle.frz_chain.specs.Books.{Back}
-use Rattle.frz_chain.specs.FileOn.{loaded_back}
-use Rattle.frz_chain.specs.declared.back.BackTable.{BackTable}
+use Rattle.frz_backs.specs.Books.{Back}
+use Rattle.frz_backs.specs.FileOn.{loaded_back}
+use Rattle.frz_backs.specs.BackTable.{BackTable}
 use Rattle.frz_backs.specs.Links.{Link, value_over}
 use Rattle.frz_backs.specs.Loaded.{leans_as, link_loaded}
 use Rattle.frz_backs.proofs.Lemmas.{loaded_backs}

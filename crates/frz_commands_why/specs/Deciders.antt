@@ -7,7 +7,7 @@ use Rattle.frz_exits.specs.Books.{value_by}
 use Rattle.frz_exits.specs.Fitting.{line_at}
 use Rattle.frz_exits.specs.Values.{is_unknown}
 use Rattle.frz_index.specs.Membership.{is_member}
-use Rattle.frz_chain.specs.Books.{Back}
+use Rattle.frz_backs.specs.Books.{Back}
 use Rattle.frz_commands_why.specs.declared.decider.Decider.{Decider}
 use Rattle.frz_commands_why.specs.declared.decider.Decider.TheVariants.{Line, Behind, NoLine}
 

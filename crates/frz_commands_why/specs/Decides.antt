@@ -6,7 +6,7 @@ use Rattle.frz_sets.specs.declared.exit.Value.TheVariants.{Unknown}
 use Rattle.frz_sets.specs.Views.{ExitLine, RuleLines}
 use Rattle.frz_exits.specs.Books.{value_by}
 use Rattle.frz_exits.specs.Fitting.{line_at}
-use Rattle.frz_chain.specs.Books.{Back, back_value}
+use Rattle.frz_backs.specs.Books.{Back, back_value}
 use Rattle.frz_exit_lines.specs.Saying.{exit_on_line}
 use Rattle.frz_commands_why.specs.Deciders.{back_at}
 use Rattle.frz_commands_why.specs.declared.decider.Decider.{Decider}

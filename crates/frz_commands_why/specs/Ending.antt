@@ -8,8 +8,8 @@ use Rattle.frz_index.specs.Members.{Num}
 use Rattle.frz_graph.specs.EntryCodes.{of_side}
 use Rattle.frz_game.specs.Numbers.{is_member}
 use Rattle.frz_store.specs.Told.{SinkTold}
-use Rattle.frz_chain.specs.FileOn.{loaded_back}
-use Rattle.frz_chain.specs.declared.back.BackTable.{BackTable}
+use Rattle.frz_backs.specs.FileOn.{loaded_back}
+use Rattle.frz_backs.specs.BackTable.{BackTable}
 use Rattle.frz_backs.specs.Links.{value_over}
 use Rattle.frz_backs.specs.Loaded.{leans_as}
 use Rattle.frz_answer.specs.declared.end.End.{End}

@@ -3,7 +3,7 @@ use Rattle.std.specs.Prelude.{◌≡◌, ◌≤◌, ◌+◌, ℕ, List, map, sum
 use Rattle.frz_store.specs.Told.{StoreTold}
 use Rattle.frz_table.specs.Opening.{Contents, contents_of}
 use Rattle.frz_table.specs.Possible.{MayHold}
-use Rattle.frz_chain.specs.declared.back.BackTable.{BackTable}
+use Rattle.frz_backs.specs.BackTable.{BackTable}
 use Rattle.frz_backs.specs.Loaded.{link_loaded}
 use Rattle.frz_atlas.specs.Behind.{TableBytes, link_of}
 use Rattle.frz_atlas.specs.Costs.{bytes_of, calls_of}

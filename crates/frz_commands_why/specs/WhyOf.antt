@@ -10,7 +10,7 @@ use Rattle.frz_store.specs.Files.{Files, bytes_at}
 use Rattle.frz_table.specs.declared.fault.TableFault.{TableFault}
 use Rattle.frz_table.specs.Opening.{Contents}
 use Rattle.frz_check.specs.Kept.{kept_codes}
-use Rattle.frz_chain.specs.Books.{Back}
+use Rattle.frz_backs.specs.Books.{Back}
 use Rattle.frz_backs.specs.Links.{value_over}
 use Rattle.frz_atlas.specs.Behind.{TableBytes, backs_in, leans}
 use Rattle.frz_atlas.specs.Loading.{opened_all, opened_own}

@@ -4,11 +4,11 @@ ghost use Rattle.std.specs.List.{position_from};
 ghost use Rattle.frz_fide.specs.Valid.{IsValid};
 ghost use Rattle.frz_index.specs.Membership.{is_member};
 ghost use Rattle.frz_sets.specs.Sound.{IsSound};
-ghost use Rattle.frz_chain.specs.FileOn.{loaded_back};
+ghost use Rattle.frz_backs.specs.FileOn.{loaded_back};
 ghost use Rattle.frz_commands_why.specs.Deciders as words;
 
+use frz_backs::BackTable;
 use frz_bits::Bitboards;
-use frz_chain::BackTable;
 use frz_exits::{ExitBook, RuleBook, fitting_line, is_unknown};
 use frz_index::Set;
 use frz_sets::Rules;

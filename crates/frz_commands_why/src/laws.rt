@@ -3,7 +3,7 @@ ghost use Rattle.std.specs.Prelude.{◌≡◌, ℕ, List, Ok};
 ghost use Rattle.frz_board.specs.Boards.{Board};
 ghost use Rattle.frz_sets.specs.Views.{RuleLines};
 ghost use Rattle.frz_answer.specs.Lawful.{IsLawful};
-ghost use Rattle.frz_chain.specs.Books.{Back};
+ghost use Rattle.frz_backs.specs.Books.{Back};
 ghost use Rattle.frz_rules.specs.Text.{rules_of};
 ghost use Rattle.frz_backs.specs.Values.{atlas_value};
 ghost use Rattle.frz_exit_lines.specs.Numbers.{exit_numbers_of};

@@ -6,7 +6,7 @@ ghost use Rattle.frz_atlas.specs.Causes.{HasAtlasCause};
 ghost use Rattle.frz_commands_why.specs.Loading.{LoadsTables, RefusesTables};
 
 use frz_atlas::{AtlasFault, load_behind, load_own};
-use frz_chain::BackTable;
+use frz_backs::BackTable;
 use frz_store::Store;
 use std::alloc::Global;
 

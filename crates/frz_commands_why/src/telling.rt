@@ -1,7 +1,7 @@
 //! Tells why the bound of a side at a number is no better one, by codes in memory.
 ghost use Rattle.std.specs.Prelude.{◌≡◌, ◌≤◌, ◌<◌, ◌+◌, ◌/◌, ◌^◌, true, length, map, slice_index, IfOk, IfSome, IsSome};
 ghost use Rattle.frz_arena.specs.Codes.{is_failure};
-ghost use Rattle.frz_chain.specs.FileOn.{loaded_back};
+ghost use Rattle.frz_backs.specs.FileOn.{loaded_back};
 ghost use Rattle.frz_fide.specs.Legal.{is_legal};
 ghost use Rattle.frz_game.specs.Games.{graph_by};
 ghost use Rattle.frz_game.specs.Numbers.{position_at};

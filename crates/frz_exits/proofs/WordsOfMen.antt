@@ -7,7 +7,7 @@ use Rattle.frz_board.specs.declared.man.Colour.{Colour}
 use Rattle.frz_board.specs.declared.man.Kind.TheVariants.{King}
 use Rattle.frz_board.specs.Men.{cell_of_man}
 use Rattle.frz_board.specs.Boards.{Board, has}
-use Rattle.frz_bits.specs.Words.{HasNoneFrom, IsNext}
+use Rattle.frz_fide.specs.Words.{HasNoneFrom, IsNext}
 use Rattle.frz_fide.specs.Valid.{IsValid}
 use Rattle.frz_fide.proofs.Lemmas.{kings_are, one_place}
 use Rattle.frz_squares.specs.Squares.{squares}

@@ -4,3 +4,4 @@ pub mod Forbidding
 pub mod Conditions
 pub mod Fitting
 pub mod Books
+pub use Rattle.frz_sets.specs.declared.exit.Value

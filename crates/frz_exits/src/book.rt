@@ -9,8 +9,8 @@ ghost use Rattle.frz_exits.specs.Values.{lag_of};
 ghost use Rattle.frz_exits.specs.Books.{value_by, first_value};
 
 use crate::conditions::all_hold;
-use frz_bits::Bitboards;
 use frz_board::Position;
+use frz_fide::Bitboards;
 use frz_sets::{Exit, Rules, Value};
 
 /// A book: a rule that gives each position outside the set its value.

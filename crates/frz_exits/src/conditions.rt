@@ -11,8 +11,8 @@ ghost use Rattle.frz_exits.specs.Conditions as conditions;
 ghost use Rattle.frz_exits.specs.Conditions.{in_range, condition_holds, conditions_hold};
 ghost use Rattle.frz_board.specs.declared.man.Kind.TheVariants.{King};
 
-use frz_bits::{Bitboards, both, next_square};
 use frz_board::{Colour, Kind, Man, Square};
+use frz_fide::{Bitboards, both, next_square};
 use frz_sets::{Cond, Test};
 use frz_squares::SquareSet;
 

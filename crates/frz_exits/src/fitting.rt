@@ -5,7 +5,7 @@ ghost use Rattle.frz_exits.specs.Fitting.{line_at};
 ghost use Rattle.frz_fide.specs.Valid.{IsValid};
 
 use crate::conditions::all_hold;
-use frz_bits::Bitboards;
+use frz_fide::Bitboards;
 use frz_sets::Exit;
 
 /// Do all conditions of the line hold at the position?

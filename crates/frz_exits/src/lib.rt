@@ -12,4 +12,6 @@ pub use book::{ExitBook, RuleBook};
 pub use fitting::fitting_line;
 pub use forbidding::allowed;
 pub use frz_arena::Class;
+pub use frz_fide::MoveList;
+pub use frz_sets::Value;
 pub use value::{class, is_unknown, lag};

@@ -28,3 +28,4 @@ pub use Rattle.frz_fide.proofs.InWords.{straight_no_taking}
 pub use Rattle.frz_fide.proofs.Bare.{Came, stayed, moved, came, no_bare_check, stays_bare, stays_minor, same_man}
 pub use Rattle.frz_fide.proofs.MinorMates.{no_minor_mate, bare_by_counts, minor_by_counts, bare_is_minor, one_place, man_counted, one_of, is_king_or_not, kings_are}
 pub use Rattle.frz_fide.proofs.CountsKept.{counts_fall}
+pub use Rattle.frz_bits.proofs.Lemmas.{count_by_squares, men_counted}

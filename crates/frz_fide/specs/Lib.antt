@@ -8,3 +8,4 @@ pub mod Valid
 pub mod Ends
 pub mod LegalMoves
 pub mod Bare
+pub use Rattle.frz_bits.specs.Words

@@ -15,6 +15,9 @@ mod ways;
 pub use aftermath::beside;
 pub use attack::{attacked, in_check};
 pub use finish::ending;
+pub use frz_bits::{
+    Bitboards, both, changed, contains, next_square, replaced, with_square, without,
+};
 pub use moves::{MoveList, legal_moves, put_legal_moves};
 pub use outcome::Ending;
 pub use playing::{after, leads, play};

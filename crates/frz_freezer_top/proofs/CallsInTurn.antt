@@ -21,7 +21,7 @@ use Rattle.frz_sets.specs.Views.{RuleLines}
 use Rattle.frz_sets.specs.declared.exit.Value.{Value}
 use Rattle.frz_report.specs.Squeezes.{IsSqueeze, Squeeze, rank_at}
 use Rattle.frz_report.specs.Zugzwangs.{IsZugzwang}
-use Rattle.frz_chain.specs.Books.{chain_value}
+use Rattle.frz_commands_chain.specs.Books.{chain_value}
 use Rattle.frz_answer.specs.declared.status.Status.{Status}
 use Rattle.frz_answer.specs.declared.status.Status.TheVariants.{Success, Words, Fen, Table, Wrong, Outside, Missing, Limit}
 use Rattle.frz_answer.specs.Statuses.{OneOf}

@@ -14,7 +14,7 @@ use Rattle.frz_check.specs.Kept.{kept_codes}
 use Rattle.frz_check.specs.KeptTables.{KeepsBound}
 use Rattle.frz_report.specs.Squeezes.{IsSqueeze, Squeeze, rank_at}
 use Rattle.frz_report.specs.Zugzwangs.{IsZugzwang}
-use Rattle.frz_chain.specs.Books.{chain_value}
+use Rattle.frz_commands_chain.specs.Books.{chain_value}
 use Rattle.frz_answer.specs.declared.status.Status.TheVariants.{Success}
 use Rattle.frz_answer.specs.Answers.{Answer}
 use Rattle.frz_commands_ask.specs.Kept.{kept_at}

@@ -10,7 +10,7 @@ use Rattle.frz_sets.specs.Views.{RuleLines}
 use Rattle.frz_arena.specs.declared.class.Class.TheVariants.{Good, Safe, Bad}
 use Rattle.frz_arena.specs.WholeTruth.{IsDecided}
 use Rattle.frz_arena.proofs.Lemmas.{decided_wins, decided_losses}
-use Rattle.frz_exits.specs.Values.{class_of}
+use Rattle.frz_graph.specs.Values.{class_of}
 use Rattle.frz_game.specs.Bounds.{IsTableOf}
 use Rattle.frz_game.specs.ExactTables.{HasNoForbid, is_decided, AreDecidedOutside, HasExactOutcomes}
 use Rattle.frz_game.specs.Games.{game_of}

@@ -9,7 +9,7 @@ use Rattle.frz_arena.specs.declared.class.Class.TheVariants.{Good, Safe}
 use Rattle.frz_arena.specs.Chess.{NeverForcesMate}
 use Rattle.frz_arena.specs.Exits.{IsExit}
 use Rattle.frz_arena.specs.WholeTruth.{TrueHolds, WinsAreKnown, WinsAreCounted, LossesAreKnown, NoneIsBad}
-use Rattle.frz_exits.specs.Values.{class_of}
+use Rattle.frz_graph.specs.Values.{class_of}
 use Rattle.frz_game.specs.Games.{chess, game_of}
 use Rattle.frz_game.specs.MenAlone.{IsTrueByMen, IsDrawnOutside}
 use Rattle.frz_game.specs.Values.{AreTrueExits}

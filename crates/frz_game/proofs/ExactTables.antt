@@ -17,7 +17,7 @@ use Rattle.frz_arena.specs.Bounds.{IsBound}
 use Rattle.frz_arena.specs.Codes.{code_of, is_win, is_failure}
 use Rattle.frz_arena.specs.WholeTruth.{CanForceMate, MatesIn, IsDead, IsWin, IsFailure, MovesFreely, TrueHolds, WinsAreKnown, WinsAreCounted, LossesAreKnown, NoneIsBad}
 use Rattle.frz_arena.proofs.Lemmas.{codes_differ, one_bound, win_of, win_and_failure, as_failure, exact_win, exact_least, exact_failure, exact_hold, exact_failure_least}
-use Rattle.frz_exits.specs.Forbidding.{covers, is_forbidden}
+use Rattle.frz_graph.specs.Forbidding.{covers, is_forbidden}
 use Rattle.frz_game.specs.Bounds.{IsTableOf}
 use Rattle.frz_game.specs.ExactTables.{HasNoForbid, HasExactOutcomes, IsExactInChess}
 use Rattle.frz_game.specs.Games.{chess, game_of, arena_by}

@@ -17,9 +17,9 @@ use Rattle.frz_arena.specs.Chess.{NeverForcesMate}
 use Rattle.frz_arena.specs.Codes.{code_of, is_failure}
 use Rattle.frz_arena.specs.WholeTruth.{NoneIsBad}
 use Rattle.frz_arena.proofs.Lemmas.{one_bound, one_forces}
-use Rattle.frz_exits.specs.Books.{value_by}
-use Rattle.frz_exits.specs.Conditions.{conditions_hold}
-use Rattle.frz_exits.specs.Values.{lag_of}
+use Rattle.frz_graph.specs.Books.{value_by}
+use Rattle.frz_graph.specs.Conditions.{conditions_hold}
+use Rattle.frz_graph.specs.Values.{lag_of}
 use Rattle.frz_game.specs.Bounds.{IsTableOf}
 use Rattle.frz_game.specs.ExactTables.{HasNoForbid, AreDecidedOutside, IsLostOutside}
 use Rattle.frz_game.specs.Games.{chess, game_of, arena_by}

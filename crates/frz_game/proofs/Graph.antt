@@ -24,8 +24,8 @@ use Rattle.frz_arena.specs.Names.{IsNumbering, IsNumbered, named, named_next, na
 use Rattle.frz_arena.specs.Plies.{LagsWithin}
 use Rattle.frz_arena.proofs.Lemmas.{none_in_empty, from_mapped, game_is_lawful, numbered_is, numbers_lawful, going, inside, cases_Option}
 use Rattle.frz_graph.specs.Finite.{IsFinite}
-use Rattle.frz_exits.specs.Values.{lag_of}
-use Rattle.frz_exits.proofs.Lemmas.{opposed}
+use Rattle.frz_graph.specs.Values.{lag_of}
+use Rattle.frz_graph.proofs.Lemmas.{opposed}
 use Rattle.frz_game.specs.Numbers.{is_member, number_of, position_at, numbers_by}
 use Rattle.frz_game.specs.Games.{game_of, arena_by, graph_by, arm_at}
 use Rattle.frz_game.specs.SmallLags.{HasSmallLags}

@@ -6,7 +6,7 @@ use Rattle.frz_board.specs.declared.man.Kind.{Kind}
 use Rattle.frz_board.specs.declared.man.Kind.TheVariants.{King, Rook, Pawn}
 use Rattle.frz_board.specs.Squares.{squares}
 use Rattle.frz_arena.proofs.Lemmas.{none_in_empty, in_cases}
-use Rattle.frz_exits.specs.Books.{value_by}
+use Rattle.frz_graph.specs.Books.{value_by}
 use Rattle.frz_game.specs.Bounds.{IsTableOf}
 use Rattle.frz_game.specs.ExactTables.{HasNoForbid, IsExactInChess}
 use Rattle.frz_game.specs.KingAndRook.{king_and_rook}

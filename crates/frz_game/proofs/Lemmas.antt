@@ -22,3 +22,4 @@ pub use Rattle.frz_game.proofs.WholeSets.{whole_set_drawn}
 pub use Rattle.frz_game.proofs.KingAndRook.{rook_exact}
 pub use Rattle.frz_game.proofs.KingAndPawn.{leads_into_back}
 pub use Rattle.frz_game.proofs.LongestMate.{longest_mate}
+pub use Rattle.frz_graph.proofs.Lemmas.{small_values}

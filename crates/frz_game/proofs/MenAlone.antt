@@ -20,7 +20,7 @@ use Rattle.frz_arena.specs.declared.class.Class.TheVariants.{Safe}
 use Rattle.frz_arena.specs.Chess.{NeverForcesMate}
 use Rattle.frz_arena.specs.Exits.{IsExit}
 use Rattle.frz_arena.proofs.Lemmas.{never_by}
-use Rattle.frz_exits.specs.Values.{class_of}
+use Rattle.frz_graph.specs.Values.{class_of}
 use Rattle.frz_game.specs.Games.{chess, game_of}
 use Rattle.frz_game.specs.MenAlone.{HasDeadMen, IsTrueByMen, AreTrueByMen}
 use Rattle.frz_game.specs.Values.{IsTrueValue, AreTrueExits}

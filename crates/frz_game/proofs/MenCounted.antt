@@ -10,7 +10,7 @@ use Rattle.frz_board.specs.Men.{cell_of_man}
 use Rattle.frz_board.specs.Shapes.{count_of}
 use Rattle.frz_board.specs.Squares.{squares}
 use Rattle.frz_combinations.specs.Combinations.{places_below}
-use Rattle.frz_bits.proofs.Lemmas.{count_by_squares}
+use Rattle.frz_fide.proofs.Lemmas.{count_by_squares}
 use Rattle.frz_index.specs.Places.{stands, places}
 use Rattle.frz_sets.specs.Views.{GroupLine}
 use Rattle.frz_game.specs.WholeSets.{everywhere, each_everywhere}

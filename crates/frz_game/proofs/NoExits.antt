@@ -8,8 +8,8 @@ use Rattle.frz_sets.specs.declared.exit.Value.TheVariants.{Unknown}
 use Rattle.frz_sets.specs.Views.{RuleLines, ExitLine}
 use Rattle.frz_arena.specs.declared.class.Class.TheVariants.{Good}
 use Rattle.frz_arena.specs.Exits.{AllNumbered}
-use Rattle.frz_exits.specs.Books.{value_by, first_value}
-use Rattle.frz_exits.specs.Values.{class_of, is_numbered}
+use Rattle.frz_graph.specs.Books.{value_by, first_value}
+use Rattle.frz_graph.specs.Values.{class_of, is_numbered}
 use Rattle.frz_game.specs.Games.{game_of}
 use Rattle.frz_game.specs.Values.{IsTrueValue, AreTrueExits}
 

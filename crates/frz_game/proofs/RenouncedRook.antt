@@ -26,8 +26,8 @@ use Rattle.frz_arena.specs.Games.{arm_of, next_by}
 use Rattle.frz_arena.specs.Plies.{LeadsTo, WinsWithin, IsGoodExit}
 use Rattle.frz_arena.specs.WholeTruth.{MatesIn}
 use Rattle.frz_arena.proofs.Lemmas.{none_in_empty, first_in, from_mapped, mated_by, goes}
-use Rattle.frz_exits.specs.Books.{value_by}
-use Rattle.frz_exits.specs.Forbidding.{is_free, covers}
+use Rattle.frz_graph.specs.Books.{value_by}
+use Rattle.frz_graph.specs.Forbidding.{is_free, covers}
 use Rattle.frz_game.specs.Bounds.{IsBoundAt}
 use Rattle.frz_game.specs.Games.{chess, game_of, arena_by}
 use Rattle.frz_game.specs.KingAndRook.{king_and_rook}

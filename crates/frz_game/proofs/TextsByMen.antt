@@ -26,8 +26,8 @@ use Rattle.frz_sets.specs.Sets.{has_state, is_state}
 use Rattle.frz_index.specs.Members.{Member}
 use Rattle.frz_index.proofs.Lemmas.{member_of}
 use Rattle.frz_arena.specs.Exits.{IsExit}
-use Rattle.frz_exits.specs.Books.{value_by, first_value}
-use Rattle.frz_exits.specs.Conditions.{test_holds, condition_holds, conditions_hold}
+use Rattle.frz_graph.specs.Books.{value_by, first_value}
+use Rattle.frz_graph.specs.Conditions.{test_holds, condition_holds, conditions_hold}
 use Rattle.frz_game.specs.Games.{game_of}
 use Rattle.frz_game.specs.MenAlone.{HasDeadMen, IsTrueByMen, AreTrueByMen, IsDrawnOutside}
 use Rattle.frz_game.specs.TextsByMen.{same_kind, has_kind, may_have, asks_at_most, say_at_most, most_of, groups_leave_at_most, leave_at_most, leave_bare, leave_minor, leave_dead, is_true_by, are_true_by_men, is_draw, are_drawn_by_men, HasNoOpenExit}

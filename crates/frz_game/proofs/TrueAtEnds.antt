@@ -12,7 +12,7 @@ use Rattle.frz_sets.specs.declared.exit.Value.TheVariants.{WhiteWins, BlackWins,
 use Rattle.frz_arena.specs.declared.class.Class.TheVariants.{Good}
 use Rattle.frz_arena.specs.Chess.{IsMated, mated, ForcesMate, NeverForcesMate, mate_alone}
 use Rattle.frz_arena.proofs.Lemmas.{forces_later, never_by, none_in_empty}
-use Rattle.frz_exits.specs.Values.{class_of}
+use Rattle.frz_graph.specs.Values.{class_of}
 use Rattle.frz_game.specs.Games.{chess}
 use Rattle.frz_game.specs.Values.{IsTrueValue}
 

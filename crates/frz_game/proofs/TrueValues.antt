@@ -11,7 +11,7 @@ use Rattle.frz_sets.specs.Views.{RuleLines}
 use Rattle.frz_arena.specs.declared.class.Class.TheVariants.{Good, Safe}
 use Rattle.frz_arena.specs.Chess.{ForcesMate, NeverForcesMate}
 use Rattle.frz_arena.specs.Exits.{IsTrueAt, TrueExits}
-use Rattle.frz_exits.specs.Values.{class_of, lag_of, is_numbered}
+use Rattle.frz_graph.specs.Values.{class_of, lag_of, is_numbered}
 use Rattle.frz_game.specs.Games.{chess, game_of}
 use Rattle.frz_game.specs.Numbers.{is_member}
 use Rattle.frz_game.specs.Values.{IsTrueValue, AreTrueExits}

@@ -27,8 +27,8 @@ use Rattle.frz_index.specs.Places.{IsWithinCount}
 use Rattle.frz_index.proofs.Lemmas.{member_of, of_member}
 use Rattle.frz_arena.specs.Exits.{IsExit}
 use Rattle.frz_arena.proofs.Lemmas.{none_in_empty, first_in, later_in, in_cases, from_mapped}
-use Rattle.frz_exits.specs.Books.{value_by, first_value}
-use Rattle.frz_exits.specs.Conditions.{condition_holds, conditions_hold}
+use Rattle.frz_graph.specs.Books.{value_by, first_value}
+use Rattle.frz_graph.specs.Conditions.{condition_holds, conditions_hold}
 use Rattle.frz_game.specs.Games.{game_of}
 use Rattle.frz_game.specs.MenAlone.{IsDrawnOutside}
 use Rattle.frz_game.specs.TextsByMen.{leave_dead, is_draw, are_drawn_by_men}

@@ -14,7 +14,7 @@ use Rattle.frz_arena.specs.Codes.{code_of, is_win, is_failure}
 use Rattle.frz_arena.specs.Chess.{ForcesMate}
 use Rattle.frz_arena.specs.WholeTruth.{CanForceMate, MatesIn, IsDead}
 use Rattle.frz_arena.specs.Exits.{IsExit}
-use Rattle.frz_exits.specs.Values.{class_of}
+use Rattle.frz_graph.specs.Values.{class_of}
 use Rattle.frz_game.specs.Games.{chess, game_of}
 
 -- the rules forbid the side no move

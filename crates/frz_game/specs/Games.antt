@@ -12,8 +12,8 @@ use Rattle.frz_arena.specs.Arena.{Arena}
 use Rattle.frz_arena.specs.Chess.{Chess}
 use Rattle.frz_arena.specs.Games.{Game, arena_of, arm_of}
 use Rattle.frz_arena.specs.Names.{named, name_in, numbers_of}
-use Rattle.frz_exits.specs.Values.{class_of, lag_of, is_numbered}
-use Rattle.frz_exits.specs.Forbidding.{is_free}
+use Rattle.frz_graph.specs.Values.{class_of, lag_of, is_numbered}
+use Rattle.frz_graph.specs.Forbidding.{is_free}
 use Rattle.frz_game.specs.Numbers.{is_member, numbers_by}
 
 -- chess: who is to move, whether his king is attacked, his legal moves, and the position after one

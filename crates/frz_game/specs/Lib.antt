@@ -13,3 +13,7 @@ pub mod KingAndRook
 pub mod RenouncedRook
 pub mod OpponentFree
 pub mod KingAndPawn
+pub use Rattle.frz_graph.specs.Books
+pub use Rattle.frz_graph.specs.EntryCodes
+pub use Rattle.frz_graph.specs.FreeCodes
+pub use Rattle.frz_index.specs.Members

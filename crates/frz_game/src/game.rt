@@ -13,11 +13,9 @@ ghost use Rattle.frz_game.specs.Games.{arm_at, graph_by};
 ghost use Rattle.frz_index.specs.Members.{HasNumber};
 
 use frz_arena::Node;
-use frz_bits::Bitboards;
 use frz_board::{Move, Position};
-use frz_exits::{ExitBook, allowed};
-use frz_fide::{Ending, MoveList, after, ending, put_legal_moves};
-use frz_graph::{Arm, Next, NextList};
+use frz_fide::{Bitboards, Ending, MoveList, after, ending, put_legal_moves};
+use frz_graph::{Arm, ExitBook, Next, NextList, allowed};
 use frz_index::Set;
 use frz_sets::Rules;
 use frz_steps::Steps;

@@ -7,3 +7,5 @@ pub mod meaning;
 pub mod men;
 pub mod numbers;
 pub mod tables;
+
+pub use frz_graph::laws::{filled, within};

@@ -8,8 +8,8 @@ mod wrong;
 
 pub use frz_arena::{Bound, Node, bound_of, code};
 pub use frz_graph::{
-    Arm, CodeList, Entries, Lists, Next, NextList, NumberedGame, Pair, exit_code, fill, local,
-    local_by,
+    Arm, CodeList, Entries, ExitBook, Lists, Next, NextList, NumberedGame, Pair, RuleBook,
+    exit_code, fill, local, local_by,
 };
 pub use game::Game;
 pub use wrong::Wrong;

@@ -6,8 +6,7 @@ ghost use Rattle.frz_game.specs.Games.{graph_by};
 
 use crate::game::Game;
 use frz_arena::Node;
-use frz_exits::ExitBook;
-use frz_graph::{Lists, NumberedGame};
+use frz_graph::{ExitBook, Lists, NumberedGame};
 use frz_steps::Steps;
 use std::sync::ledger::Ledger;
 

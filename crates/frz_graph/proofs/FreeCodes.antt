@@ -4,7 +4,7 @@ use Rattle.std.specs.List.{filter}
 use Rattle.std.proofs.lemmas.Bool.{cases_Bool}
 use Rattle.std.proofs.lemmas.List.{take_more}
 use Rattle.frz_board.specs.Moving.{Step}
-use Rattle.frz_sets.specs.declared.exit.Value.{Value}
+use Rattle.frz_exits.specs.Value.{Value}
 use Rattle.frz_arena.specs.declared.arm.Arm.{Arm}
 use Rattle.frz_arena.specs.declared.best.Best.{Best}
 use Rattle.frz_arena.specs.Best.{IsBest}

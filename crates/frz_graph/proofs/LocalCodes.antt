@@ -4,7 +4,7 @@ use Rattle.std.specs.List.{All, filter}
 use Rattle.std.proofs.lemmas.List.Elements.{All-contains_itself}
 use Rattle.frz_board.specs.declared.man.Colour.{Colour}
 use Rattle.frz_board.specs.Moving.{Step}
-use Rattle.frz_sets.specs.declared.exit.Value.{Value}
+use Rattle.frz_exits.specs.Value.{Value}
 use Rattle.frz_arena.specs.declared.arm.Arm.{Arm}
 use Rattle.frz_arena.specs.declared.arm.Next.{Next}
 use Rattle.frz_arena.specs.declared.arm.Next.TheVariants.{Inside, Outside}

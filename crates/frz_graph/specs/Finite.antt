@@ -1,7 +1,7 @@
 -- An arena over finitely many numbers, as a solver asks for it.
 use Rattle.std.specs.Prelude.{◌≡◌, ◌≢◌, ◌≤◌, ◌<◌, ◌^◌, ℕ}
 use Rattle.frz_board.specs.declared.man.Colour.{Colour}
-use Rattle.frz_sets.specs.declared.exit.Value.{Value}
+use Rattle.frz_exits.specs.Value.{Value}
 use Rattle.frz_arena.specs.declared.arm.Arm.{Arm}
 use Rattle.frz_arena.specs.declared.arm.Next.TheVariants.{Inside, Outside}
 use Rattle.frz_arena.specs.declared.node.Node.TheVariants.{Broken, Going}

@@ -1,7 +1,7 @@
 -- The codes of the free moves among those of all moves.
 use Rattle.std.specs.Prelude.{ℕ, Bool, true, false, List, [], ◌∷◌, if◌then◌else◌}
 use Rattle.frz_board.specs.Moving.{Step}
-use Rattle.frz_sets.specs.declared.exit.Value.{Value}
+use Rattle.frz_exits.specs.Value.{Value}
 use Rattle.frz_arena.specs.declared.arm.Arm.{Arm}
 
 -- the codes of the free moves, where each move has its code

@@ -2,7 +2,7 @@
 
 use arrayvec::ArrayVec;
 use frz_board::Move;
-use frz_sets::Value;
+use frz_exits::Value;
 
 /// Where a move leads: to the number of a position of the set, or out of the set to a value.
 pub type Next = frz_arena::Next<u32, Value>;

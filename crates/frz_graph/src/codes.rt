@@ -5,8 +5,7 @@ ghost use Rattle.frz_exits.specs.Values.{lag_of};
 ghost use Rattle.frz_graph.specs.EntryCodes.{value_code};
 
 use frz_board::Colour;
-use frz_exits::{class, lag};
-use frz_sets::Value;
+use frz_exits::{Value, class, lag};
 
 /// The code for `side` of an exit of this value, from its class and its lag.
 pub fn exit_code(v: Value, side: Colour) -> u32

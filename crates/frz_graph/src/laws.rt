@@ -3,7 +3,7 @@
 ghost use Rattle.std.specs.Prelude.{◌≡◌, ℕ, List, All, map, slice_index};
 ghost use Rattle.frz_board.specs.declared.man.Colour.{Colour};
 ghost use Rattle.frz_board.specs.Moving.{Step};
-ghost use Rattle.frz_sets.specs.declared.exit.Value.{Value};
+ghost use Rattle.frz_exits.specs.Value.{Value};
 ghost use Rattle.frz_arena.specs.Arena.{Arena};
 ghost use Rattle.frz_arena.specs.LocalCodes.{node_code, local_code};
 ghost use Rattle.frz_exits.specs.Values.{class_of, lag_of};

@@ -13,6 +13,7 @@ mod numbered_game;
 pub use arm::{Arm, Next, NextList};
 pub use codes::exit_code;
 pub use entries::{CodeList, Entries, Pair, fill};
+pub use frz_exits::{ExitBook, RuleBook, allowed};
 pub use lists::Lists;
 pub use local_code::{local, local_by};
 pub use numbered_game::{NumberedGame, local_at};

@@ -4,7 +4,7 @@ ghost use Rattle.std.specs.Prelude.{◌≡◌, []};
 
 use crate::arm::NextList;
 use crate::entries::CodeList;
-use frz_fide::MoveList;
+use frz_exits::MoveList;
 
 /// Lists that a solver keeps from number to number, so that none is made anew.
 pub struct Lists {

@@ -2,7 +2,7 @@
 
 ghost use Rattle.std.specs.Prelude.{◌≡◌, ◌≤◌, ◌<◌, ◌+◌, ℕ, length, slice_index};
 ghost use Rattle.frz_board.specs.Moving.{Step};
-ghost use Rattle.frz_sets.specs.declared.exit.Value.{Value};
+ghost use Rattle.frz_exits.specs.Value.{Value};
 ghost use Rattle.frz_arena.specs.Arena.{Arena};
 ghost use Rattle.frz_arena.specs.LocalCodes.{local_code};
 ghost use Rattle.frz_graph.specs.Finite.{IsFinite};

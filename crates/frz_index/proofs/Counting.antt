@@ -10,7 +10,7 @@ use Rattle.frz_board.specs.declared.man.Colour.{Colour}
 use Rattle.frz_board.specs.declared.man.Kind.{Kind}
 use Rattle.frz_board.specs.Boards.{Board, has}
 use Rattle.frz_board.specs.Men.{kind_of_number, number_of_kind}
-use Rattle.frz_bits.specs.Words.{HasNoneFrom, IsNext}
+use Rattle.frz_fide.specs.Words.{HasNoneFrom, IsNext}
 use Rattle.frz_squares.specs.SquareSets.{has_square, set_of}
 use Rattle.frz_squares.proofs.Lemmas.{has-set_of, has-zero}
 use Rattle.frz_combinations.proofs.Lemmas.{place_counts}

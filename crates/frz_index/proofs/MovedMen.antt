@@ -6,7 +6,7 @@ use Rattle.std.proofs.lemmas.Bool.{and_parts, cases_eq, cases_lt, eqb-true, fals
 use Rattle.frz_board.specs.Boards.{Board}
 use Rattle.frz_board.specs.Men.{cell_of_man, kind_of_number, number_of_kind}
 use Rattle.frz_board.specs.declared.man.Kind.{Kind}
-use Rattle.frz_bits.specs.Words.{HasNoneFrom, IsNext}
+use Rattle.frz_fide.specs.Words.{HasNoneFrom, IsNext}
 use Rattle.frz_squares.specs.SquareSets.{has_square, set_of}
 use Rattle.frz_squares.proofs.Lemmas.{has-set_of, has-zero}
 use Rattle.frz_sets.specs.Views.{GroupLine}

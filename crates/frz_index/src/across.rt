@@ -14,8 +14,8 @@ ghost use Rattle.frz_index.specs.Taking.{IsCountedTaking, IsSpare, IsTaking};
 use crate::plan::Plan;
 use crate::shares::{Share, cell_on};
 use crate::turn::turn_number;
-use frz_bits::Bitboards;
 use frz_board::{Colour, Kind, Man, Move, Square, cell_of};
+use frz_fide::Bitboards;
 
 /// What the man on the square adds to a number. `None` unless only one group has him there as a
 /// state, and that group has one man at most.

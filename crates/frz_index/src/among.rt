@@ -16,8 +16,8 @@ use crate::chart::Chart;
 use crate::digit::digit;
 use crate::plan::Plan;
 use crate::room::has_state;
-use frz_bits::Bitboards;
 use frz_board::{Man, Square, cell_of};
+use frz_fide::Bitboards;
 use frz_sets::Group;
 
 /// Is the man on both squares a state of the group?

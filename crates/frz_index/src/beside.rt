@@ -16,9 +16,9 @@ use crate::across::turn_adds;
 use crate::chart::{Chart, kind_at};
 use crate::digit::digit;
 use crate::plan::Plan;
-use frz_bits::{Bitboards, both, changed, next_square, replaced, without};
 use frz_board::{Man, cell_of};
 use frz_combinations::Triangle;
+use frz_fide::{Bitboards, both, changed, next_square, replaced, without};
 use frz_sets::Group;
 
 /// For each cell (0 for empty, 1 to 12 for a man), the bitboard of the squares that changed to it

@@ -5,8 +5,8 @@ ghost use Rattle.frz_sets.specs.Groups.{state_number as number_of_state};
 ghost use Rattle.frz_sets.specs.Sound.{AreStates};
 ghost use Rattle.frz_index.specs.Charts.{AreCuts, AreWords, IsAt, IsChart};
 
-use frz_bits::replaced;
 use frz_board::{Kind, Square};
+use frz_fide::replaced;
 
 /// Where the states of a group stand among all 384 states, six kinds on 64 squares. All states are
 /// numbered from 0, by kind, then by square.

@@ -9,9 +9,9 @@ ghost use Rattle.frz_index.specs.Places.{AreSquares, IsWithinCount, digit_of, pl
 ghost use Rattle.frz_sets.specs.Sound.{IsCounted};
 
 use crate::chart::{Chart, kind_at};
-use frz_bits::{Bitboards, both, next_square, replaced};
 use frz_board::Man;
 use frz_combinations::Triangle;
+use frz_fide::{Bitboards, both, next_square, replaced};
 use frz_sets::Group;
 
 /// The men of a group that have been counted so far.

@@ -14,8 +14,8 @@ use crate::chart::Chart;
 use crate::digit::digit;
 use crate::placing::put;
 use crate::quotient::{left_over, quotient};
-use frz_bits::Bitboards;
 use frz_combinations::Triangle;
+use frz_fide::Bitboards;
 use frz_sets::Group;
 
 /// The groups' digits as one number, and the bitboard of their men's squares. `None` if a group has

@@ -8,9 +8,9 @@ ghost use Rattle.frz_index.specs.Candidates.{put_group, put_men};
 ghost use Rattle.frz_index.specs.FreeSquares.{are_free, is_group_free};
 ghost use Rattle.frz_sets.specs.Sound.{IsCounted};
 
-use frz_bits::Bitboards;
 use frz_board::{Colour, Kind, Man, Square, cell_of};
 use frz_combinations::Triangle;
+use frz_fide::Bitboards;
 use frz_sets::Group;
 
 /// How many men a digit stands for, and the rank of their combination among those of as many men.

@@ -9,9 +9,9 @@ ghost use Rattle.frz_index.specs.Kept.{AreKnown, AreNumberable, AreWeights, IsPl
 
 use crate::chart::{Chart, chart_of};
 use crate::shares::{Share, shares_of};
-use frz_bits::with_square;
 use frz_board::Square;
 use frz_combinations::Triangle;
+use frz_fide::with_square;
 use frz_sets::{Group, MOST_STATES, Rules, has_state, is_target, radix};
 use std::alloc::{AllocError, Global};
 

@@ -12,9 +12,9 @@ ghost use Rattle.frz_index.specs.Room.{has_room, takes_one_more as group_takes_o
 
 use crate::chart::{Chart, kind_number};
 use crate::digit::count_men;
-use frz_bits::{Bitboards, contains};
 use frz_board::{Man, Square};
 use frz_combinations::Triangle;
+use frz_fide::{Bitboards, contains};
 use frz_sets::Group;
 
 /// Is this man on this square a state of the group?

@@ -3,7 +3,7 @@ use Rattle.std.proofs.Common.{◌≡◌, ◌+◌, ℕ, List, [], ◌∷◌, ◌+
 use Rattle.std.proofs.lemmas.List.Elements.{All-nil, All-cons, All-push}
 use Rattle.frz_exits.specs.Books.{value_by}
 use Rattle.frz_game.specs.Values.{AreTrueExits}
-use Rattle.frz_chain.specs.Books.{Back}
+use Rattle.frz_backs.specs.Books.{Back}
 use Rattle.frz_backs.specs.Links.{Link, AreExact, AreExactOver, AreTrueLines}
 use Rattle.frz_backs.proofs.Lemmas.{TellsTrue, link_true}
 use Rattle.frz_premises.specs.Believing.{BeliefsHold, BeliefsHoldOver, believed_in, believed_over}

@@ -27,11 +27,10 @@ use Rattle.frz_game.specs.Games.{chess, game_of}
 use Rattle.frz_game.specs.Meaning.{Means}
 use Rattle.frz_game.specs.Values.{AreTrueExits, IsTrueValue}
 use Rattle.frz_game.proofs.Lemmas.{bound_means, stored_bound}
-use Rattle.frz_chain.specs.Books.{Back}
-use Rattle.frz_chain.specs.FileOn.{IsExactBack}
-use Rattle.frz_chain.proofs.Lemmas.{number_inside, number_outside}
+use Rattle.frz_backs.specs.Books.{Back}
+use Rattle.frz_backs.specs.FileOn.{IsExactBack}
 use Rattle.frz_backs.specs.Links.{Link, value_over, AreExactOver, AreExact, AreTrueLines}
-use Rattle.frz_backs.proofs.Lemmas.{TellsTrue, link_true, over_true}
+use Rattle.frz_backs.proofs.Lemmas.{TellsTrue, link_true, number_inside, number_outside, over_true}
 use Rattle.frz_premises.specs.Saying.{codes_say, counts_wins, holds, is_uncounted, says_as_much, says_at, wins_within}
 use Rattle.frz_premises.proofs.FirstLines.{first_cases}
 

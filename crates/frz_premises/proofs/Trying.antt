@@ -19,7 +19,7 @@ use Rattle.frz_sets.specs.declared.exit.Value.TheVariants.{Unknown}
 use Rattle.frz_sets.specs.Views.{ExitLine, RuleLines}
 use Rattle.frz_exits.specs.Values.{is_unknown}
 use Rattle.frz_backs.specs.Links.{Link}
-use Rattle.frz_chain.specs.declared.back.BackTable.{BackTable}
+use Rattle.frz_backs.specs.BackTable.{BackTable}
 use Rattle.frz_premises.specs.declared.basis.Basis.{Basis}
 use Rattle.frz_premises.specs.declared.trial.Trial.{Trial}
 use Rattle.frz_premises.specs.declared.basis.Basis.TheVariants.{AsksNothing, ByMen}

@@ -14,7 +14,7 @@ use crate::basis::Basis;
 use crate::silent::Silent;
 use crate::trial::Trial;
 use crate::walk::walk;
-use frz_chain::BackTable;
+use frz_backs::BackTable;
 use frz_game::Game;
 use frz_index::Set;
 use frz_sets::{Exit, Rules};

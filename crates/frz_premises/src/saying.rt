@@ -6,10 +6,9 @@ ghost use Rattle.frz_premises.specs.Saying as words;
 ghost use Rattle.frz_backs.specs.Loaded.{leans_as, link_loaded};
 
 use frz_arena::is_win;
-use frz_backs::codes_on;
+use frz_backs::{BackTable, codes_on};
 use frz_bits::Bitboards;
 use frz_board::Colour;
-use frz_chain::BackTable;
 use frz_sets::{Exit, Value};
 use frz_table::FileKind;
 

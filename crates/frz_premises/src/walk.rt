@@ -11,8 +11,8 @@ ghost use Rattle.frz_premises.specs.WaysOut.{outside_below, outside_of};
 
 use crate::silent::Silent;
 use crate::trial::Trial;
+use frz_backs::BackTable;
 use frz_bits::Bitboards;
-use frz_chain::BackTable;
 use frz_exits::fitting_line;
 use frz_fide::after;
 use frz_game::{Arm, Game, Lists, Next};

@@ -5,7 +5,7 @@ use Rattle.std.specs.List.{list_any}
 use Rattle.frz_board.specs.declared.man.Colour.{Colour}
 use Rattle.frz_board.specs.declared.man.Colour.TheVariants.{White, Black}
 use Rattle.frz_board.specs.declared.man.Kind.TheVariants.{Pawn}
-use Rattle.frz_squares.specs.Squares.{is_beside, squares}
+use Rattle.frz_board.specs.Squares.{is_beside, squares}
 use Rattle.frz_board.specs.Men.{cell_of_man, other_of}
 use Rattle.frz_board.specs.Ranks.{is_passing_rank, ahead}
 use Rattle.frz_combinations.specs.Selections.{radix}

@@ -1,6 +1,5 @@
 //! What an exit line says: a value where conditions hold.
-use frz_board::{Colour, Kind, Square};
-use frz_squares::SquareSet;
+use frz_board::{Colour, Kind, Square, SquareSet};
 use std::marker::Model;
 
 /// What a condition asks of a position.

@@ -1,6 +1,5 @@
 //! A forbid line: moves that a side renounces.
-use frz_board::{Colour, Kind};
-use frz_squares::SquareSet;
+use frz_board::{Colour, Kind, SquareSet};
 
 /// Which moves of its man between its squares a forbid line covers.
 #[derive(Clone, Copy, PartialEq, Eq)]

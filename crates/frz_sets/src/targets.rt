@@ -2,7 +2,7 @@
 //! that may capture it en passant.
 ghost use Rattle.std.specs.Prelude.{◌≡◌, ◌&&◌, ◌≤◌, length};
 ghost use Rattle.std.specs.List.{list_any};
-ghost use Rattle.frz_squares.specs.Squares.{is_beside, squares};
+ghost use Rattle.frz_board.specs.Squares.{is_beside, squares};
 ghost use Rattle.frz_sets.specs.Sets.{has_state as some_has_state, pawn, is_pair, is_possible_for, is_possible, targets};
 
 use crate::group::Group;

@@ -19,6 +19,7 @@ mod writing;
 
 pub use codes::load_codes;
 pub use fault::TableFault;
+pub use frz_index::Set;
 pub use kind::FileKind;
 pub use opening::{open_kind, open_table};
 pub use sizes::check_size;

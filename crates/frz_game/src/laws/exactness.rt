@@ -12,7 +12,7 @@ ghost use Rattle.frz_arena.specs.declared.bound.Bound.{Bound};
 ghost use Rattle.frz_arena.specs.declared.bound.Bound.TheVariants.{Wins, Fails};
 ghost use Rattle.frz_arena.specs.Codes.{code_of};
 ghost use Rattle.frz_arena.specs.WholeTruth.{CanForceMate, MatesIn, NoneIsBad, WinsAreKnown, WinsAreCounted, LossesAreKnown};
-ghost use Rattle.frz_exits.specs.Books.{value_by};
+ghost use Rattle.frz_graph.specs.Books.{value_by};
 ghost use Rattle.frz_game.specs.Bounds.{IsBoundAt, IsTableOf};
 ghost use Rattle.frz_arena.specs.Exits.{IsExit};
 ghost use Rattle.frz_game.specs.KingAndPawn.{king_and_pawn as pawn, pawn_back};

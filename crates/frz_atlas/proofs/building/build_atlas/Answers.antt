@@ -6,7 +6,7 @@ use Rattle.frz_rules.specs.declared.fault.RulesError.{RulesError}
 use Rattle.frz_sets.specs.Views.{RuleLines}
 use Rattle.frz_store.specs.Told.{store_of}
 use Rattle.frz_table.proofs.Lemmas.{read_short}
-use Rattle.frz_chain.specs.FileOn.{loaded_back}
+use Rattle.frz_backs.specs.FileOn.{loaded_back}
 use Rattle.frz_table.proofs.Lemmas.{handed_on, refused_as}
 use Rattle.frz_backs.proofs.Lemmas.{loaded_backs}
 use Rattle.frz_atlas.specs.Building.{RefusesToBuild}

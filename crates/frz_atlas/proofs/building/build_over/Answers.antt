@@ -5,8 +5,8 @@ use Rattle.frz_sets.specs.declared.exit.Value.{Value}
 use Rattle.frz_store.specs.Told.{store_of}
 use Rattle.frz_table.specs.declared.kind.FileKind.TheVariants.{Atlas}
 use Rattle.frz_table.specs.Layout.{magic_of}
-use Rattle.frz_build.specs.Building.{Builds}
-use Rattle.frz_chain.specs.FileOn.{loaded_back}
+use Rattle.frz_backs.specs.Building.{Builds}
+use Rattle.frz_backs.specs.FileOn.{loaded_back}
 use Rattle.frz_backs.specs.Values.{atlas_value}
 use Rattle.frz_atlas.proofs.building.build_over.Goals as goal
 

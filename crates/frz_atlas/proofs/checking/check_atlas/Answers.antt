@@ -9,9 +9,9 @@ use Rattle.frz_store.specs.Told.{store_of}
 use Rattle.frz_table.specs.Tables.{table_size}
 use Rattle.frz_table.specs.declared.fault.TableFault.TheVariants.{NoMemory}
 use Rattle.frz_check.specs.Kept.{ChecksTable}
-use Rattle.frz_chain.specs.Books.{Back}
-use Rattle.frz_chain.specs.FileOn.{loaded_back}
-use Rattle.frz_chain.specs.declared.back.BackTable.{BackTable}
+use Rattle.frz_backs.specs.Books.{Back}
+use Rattle.frz_backs.specs.FileOn.{loaded_back}
+use Rattle.frz_backs.specs.BackTable.{BackTable}
 use Rattle.frz_backs.specs.Links.{backs_of}
 use Rattle.frz_backs.specs.Loaded.{link_loaded}
 use Rattle.frz_backs.specs.Values.{atlas_value}

@@ -1,6 +1,6 @@
 use Rattle.std.proofs.Common.{◌≡◌, map, take}
 use Rattle.frz_sets.specs.Sets.{size_of}
-use Rattle.frz_chain.specs.declared.back.BackTable.{BackTable}
+use Rattle.frz_backs.specs.BackTable.{BackTable}
 use Rattle.frz_atlas.proofs.checking.sizes_of.Given as goal
 
 -- the sizes of the tables before this one

@@ -1,9 +1,9 @@
 use Rattle.std.proofs.Common.{◌∙◌, map}
 use Rattle.std.proofs.lemmas.Result.{IfOk-weaker}
 use Rattle.frz_store.specs.Told.{store_of}
-use Rattle.frz_graph.specs.EntryCodes.{of_side}
+use Rattle.frz_check.specs.EntryCodes.{of_side}
 use Rattle.frz_check.specs.declared.loading.CheckedCodes.{CheckedCodes}
-use Rattle.frz_chain.specs.FileOn.{loaded_back}
+use Rattle.frz_backs.specs.FileOn.{loaded_back}
 use Rattle.frz_atlas.proofs.Causes.{file_cause}
 use Rattle.frz_atlas.proofs.VerdictsByValues.{moved_leaning, moved_plain}
 use Rattle.frz_atlas.proofs.opening.load_over.Goals as goal

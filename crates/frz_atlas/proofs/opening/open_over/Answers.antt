@@ -3,8 +3,8 @@ use Rattle.frz_store.specs.Told.{store_of}
 use Rattle.frz_table.specs.Tables.{Table}
 use Rattle.frz_table.proofs.Lemmas.{fine_after}
 use Rattle.frz_check.specs.declared.loading.CheckedCodes.{CheckedCodes}
-use Rattle.frz_chain.specs.FileOn.{loaded_back}
-use Rattle.frz_chain.specs.declared.back.BackTable.{BackTable}
+use Rattle.frz_backs.specs.FileOn.{loaded_back}
+use Rattle.frz_backs.specs.BackTable.{BackTable}
 use Rattle.frz_atlas.specs.Opening.{link_with}
 use Rattle.frz_atlas.proofs.Causes.{given_cause, one_cause, one_later}
 use Rattle.frz_atlas.proofs.TableFound.{JudgedOver, back_given, back_wrong, judged_over, not_loaded, not_opened}

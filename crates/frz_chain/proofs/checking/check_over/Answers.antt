@@ -1,8 +1,8 @@
 use Rattle.std.proofs.Common.{◌∙◌, ap₂, subst}
 use Rattle.frz_board.specs.Boards.{Board}
 use Rattle.frz_sets.specs.declared.exit.Value.{Value}
-use Rattle.frz_check.specs.declared.verdict.Verdict.TheVariants.{Exact, Wrong}
-use Rattle.frz_check.specs.Kept.{ChecksTable}
+use Rattle.frz_build.specs.Verdict.TheVariants.{Exact, Wrong}
+use Rattle.frz_build.specs.Kept.{ChecksTable}
 use Rattle.frz_chain.specs.Books.{chain_value}
 use Rattle.frz_chain.proofs.checking.check_over.Goals as goal
 

@@ -1,10 +1,10 @@
 use Rattle.std.proofs.Common.{◌∙◌, sym, subst}
 use Rattle.frz_exits.specs.Books.{value_by}
-use Rattle.frz_graph.specs.EntryCodes.{of_side}
+use Rattle.frz_game.specs.EntryCodes.{of_side}
 use Rattle.frz_sets.specs.Views.{RuleLines}
 use Rattle.frz_store.specs.Told.{store_of}
 use Rattle.frz_table.specs.Opening.{contents_of}
-use Rattle.frz_check.specs.Verdicts.{IsVerdict}
+use Rattle.frz_build.specs.Verdicts.{IsVerdict}
 use Rattle.frz_chain.specs.Backs.{RefusesBack}
 use Rattle.frz_chain.specs.Books.{back_with}
 use Rattle.frz_chain.specs.declared.fault.ChainFault.{ChainFault}

@@ -1,6 +1,6 @@
 use Rattle.frz_check.proofs.FileChecks.{moved_verdict, table_checked}
 use Rattle.frz_check.specs.Verdicts.{IsVerdict}
-use Rattle.frz_graph.specs.EntryCodes.{of_side}
+use Rattle.frz_game.specs.EntryCodes.{of_side}
 use Rattle.frz_check.proofs.loading.load_checked.Given.{Over}
 use Rattle.frz_check.proofs.loading.load_checked.Goals as goal
 use Rattle.frz_check.proofs.loading.load_checked.Goals.{After-check_entries-verdict}

@@ -1,7 +1,7 @@
 use Rattle.std.proofs.Common.{◌∙◌}
 use Rattle.frz_store.specs.Told.{store_of}
 use Rattle.frz_table.specs.Faults.{IsOutside}
-use Rattle.frz_exits.specs.Books.{value_by}
+use Rattle.frz_game.specs.Books.{value_by}
 use Rattle.frz_check.specs.Kept.{ChecksFile, ChecksTable, RefusesFile}
 use Rattle.frz_check.proofs.FileChecks.{file_checked, file_not_loaded, if_given, if_refused}
 use Rattle.frz_check.proofs.tables.check_table.Goals as goal

@@ -1,7 +1,7 @@
 use Rattle.std.specs.Prelude.{map}
 use Rattle.std.proofs.Common.{◌∙◌, ap}
 use Rattle.frz_store.specs.Told.{sink_of}
-use Rattle.frz_chain.specs.FileOn.{loaded_back}
+use Rattle.frz_backs.specs.FileOn.{loaded_back}
 use Rattle.frz_commands_atlas.proofs.ReportEnds.{moved_report}
 use Rattle.frz_commands_atlas.proofs.reporting.report_loaded.Goals as goal
 

@@ -1,6 +1,6 @@
 use Rattle.std.proofs.Common.{sym, ◌∙◌}
 use Rattle.frz_index.specs.Membership.{is_member}
-use Rattle.frz_chain.specs.FileOn.{loaded_back}
+use Rattle.frz_backs.specs.FileOn.{loaded_back}
 use Rattle.frz_commands_why.proofs.Places.{position_mapped}
 use Rattle.frz_commands_why.proofs.decider.holding_table.Goals as goal
 

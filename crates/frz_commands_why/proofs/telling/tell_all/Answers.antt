@@ -4,7 +4,7 @@ use Rattle.frz_store.specs.declared.outside.Failed.{Failed}
 use Rattle.frz_store.specs.Told.{sink_of}
 use Rattle.frz_answer.specs.declared.status.Status.{Status}
 use Rattle.frz_answer.specs.Texts.{FailedWithin, TookText}
-use Rattle.frz_chain.specs.FileOn.{loaded_back}
+use Rattle.frz_backs.specs.FileOn.{loaded_back}
 use Rattle.frz_bound_lines.specs.BoundLines.{kept_line}
 use Rattle.frz_commands_why.specs.Deciders.{decider_of}
 use Rattle.frz_commands_why.specs.Telling.{TellsWhy}

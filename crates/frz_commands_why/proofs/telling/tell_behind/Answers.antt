@@ -2,7 +2,7 @@ use Rattle.std.proofs.Common.{◌≡◌, ap, sym, ◌∙◌, true, slice_index}
 use Rattle.std.specs.Prelude.{map}
 use Rattle.frz_store.specs.Told.{sink_of}
 use Rattle.frz_arena.specs.Codes.{is_win}
-use Rattle.frz_chain.specs.FileOn.{loaded_back}
+use Rattle.frz_backs.specs.FileOn.{loaded_back}
 use Rattle.frz_game.proofs.Lemmas.{finite}
 use Rattle.frz_commands_why.specs.Deciders.{decider_of}
 use Rattle.frz_commands_why.proofs.Told.{broken_told, hold_told, win_told}

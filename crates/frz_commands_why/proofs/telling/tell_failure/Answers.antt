@@ -4,7 +4,7 @@ use Rattle.frz_sets.specs.Views.{GroupLine}
 use Rattle.frz_store.specs.declared.outside.Failed.{Failed}
 use Rattle.frz_store.specs.Told.{sink_of}
 use Rattle.frz_answer.specs.Texts.{WroteText}
-use Rattle.frz_chain.specs.FileOn.{loaded_back}
+use Rattle.frz_backs.specs.FileOn.{loaded_back}
 use Rattle.frz_game.specs.declared.wrong.Wrong.{Wrong}
 use Rattle.frz_game.proofs.Lemmas.{finite}
 use Rattle.frz_commands_why.specs.Deciders.{decider_of}

@@ -1,6 +1,6 @@
 use Rattle.std.proofs.Common.{List, arith, subst}
 use Rattle.frz_store.specs.Told.{sink_of}
-use Rattle.frz_chain.specs.declared.back.BackTable.{BackTable}
+use Rattle.frz_backs.specs.BackTable.{BackTable}
 use Rattle.frz_commands_why.specs.Ending.{EndsIn}
 use Rattle.frz_commands_why.proofs.Loaded.{small_unloaded}
 use Rattle.frz_commands_why.proofs.Running.{refused_so, why_is_told}

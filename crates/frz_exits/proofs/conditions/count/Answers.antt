@@ -1,5 +1,5 @@
 use Rattle.std.proofs.Common.{ap, count_ones, ◌∙◌}
-use Rattle.frz_bits.proofs.Lemmas.{men_counted}
+use Rattle.frz_fide.proofs.Lemmas.{men_counted}
 use Rattle.frz_exits.proofs.conditions.count.Goals as goal
 
 pub returns : goal.returns

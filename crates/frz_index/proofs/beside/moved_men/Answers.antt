@@ -1,5 +1,5 @@
 use Rattle.std.proofs.Common.{◌≡◌, ◌+◌, ◌∙◌, ap, arith, slice_index, slice_set, subst, sym}
-use Rattle.frz_bits.specs.Words.{IsNext}
+use Rattle.frz_fide.specs.Words.{IsNext}
 use Rattle.frz_board.specs.Boards.{Board}
 use Rattle.frz_index.proofs.MovedMen.{IsMore, MovedBelow, more, moved_end, moved_start, moved_step}
 use Rattle.frz_index.proofs.beside.moved_men.Goals as goal

@@ -1,5 +1,5 @@
 use Rattle.std.proofs.Common.{◌≡◌, ◌+◌, ◌*◌, slice_index, refl, sym, subst, ap, ◌∙◌, arith}
-use Rattle.frz_bits.specs.Words.{IsNext}
+use Rattle.frz_fide.specs.Words.{IsNext}
 use Rattle.frz_combinations.specs.Binomials.{capped, choose}
 use Rattle.frz_sets.specs.Views.{GroupLine}
 use Rattle.frz_index.specs.Charts.{IsCounted}

@@ -1,6 +1,6 @@
 use Rattle.std.proofs.Common.{◌≡◌, ◌<◌, ◌≤◌, ◌&&◌, ℕ, false, take, get_or}
 use Rattle.std.specs.List.{list_any}
-use Rattle.frz_chain.specs.declared.back.BackTable.{BackTable as Table}
+use Rattle.frz_backs.specs.BackTable.{BackTable as Table}
 use Rattle.frz_backs.specs.Loaded.{link_loaded}
 use Rattle.frz_premises.specs.Saying.{says_as_much}
 use Rattle.frz_premises.proofs.trial.hear.Given as goal

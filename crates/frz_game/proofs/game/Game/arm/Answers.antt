@@ -3,7 +3,7 @@ use Rattle.frz_board.specs.Boards.{Board}
 use Rattle.frz_fide.specs.Legal.{after}
 use Rattle.frz_arena.specs.Games.{next_by}
 use Rattle.frz_arena.specs.Names.{named_next, name_in}
-use Rattle.frz_exits.specs.Forbidding.{is_free}
+use Rattle.frz_graph.specs.Forbidding.{is_free}
 use Rattle.frz_game.specs.Numbers.{is_member, numbers_by}
 use Rattle.frz_game.specs.Games.{arm_at}
 use Rattle.frz_game.proofs.Numbers.{same_arm}

@@ -1,6 +1,6 @@
 use Rattle.frz_game.proofs.MenAlone.{exits_by_men}
 use Rattle.frz_game.proofs.TextsByMen.{text_by_men, drawn_text}
-use Rattle.frz_exits.specs.Books.{value_by}
+use Rattle.frz_graph.specs.Books.{value_by}
 use Rattle.frz_game.proofs.laws.men.texts_by_men.Goals as goal
 
 pub returns-clause-exits : goal.returns-clause-exits
