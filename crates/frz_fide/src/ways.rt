@@ -55,8 +55,20 @@ pub fn is_way(p: &Bitboards, man: Man, a: Square, b: Square) -> bool
     }
 }
 
-/// The bitboard of those of `squares` to which the man on `a` has a way.
+/// The bitboard of those of `squares` to which the man on `a` has a way. What a piece reaches is
+/// told by words.
 pub fn open_ways(p: &Bitboards, man: Man, a: Square, squares: u64) -> u64
+    ensures { result ≡
+        set_of (λ b. has_square squares b && goes p.now man.colour man.kind a b) }
+{
+    match man.kind {
+        Kind::Pawn => pawn_ways(p, man, a, squares),
+        _ => p.reached(man, a, squares),
+    }
+}
+
+/// `open_ways` for a pawn, square by square.
+fn pawn_ways(p: &Bitboards, man: Man, a: Square, squares: u64) -> u64
     ensures { result ≡
         set_of (λ b. has_square squares b && goes p.now man.colour man.kind a b) }
 {
