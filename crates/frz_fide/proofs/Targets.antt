@@ -1,7 +1,7 @@
 -- The squares that a man may go to on some board are enough.
 use Rattle.std.proofs.Common.{◌≡◌, ℕ, ◌<◌, ◌≤◌, ◌^◌, List, [], ◌++◌, Bool, true, false, ◌&&◌, ◌||◌, not, refl, ap, sym, ◌∙◌, arith, Some, inl, inr}
 use Rattle.std.specs.Prelude.{◌==◌, nat_le}
-use Rattle.std.proofs.lemmas.Bool.{and_parts, eqb-true, le-leb, and_left, and_right, cases_Bool, not-true}
+use Rattle.std.proofs.lemmas.Bool.{and_parts, eqb-true, le-leb, and_right, cases_Bool, not-true}
 use Rattle.frz_board.specs.declared.man.Colour.{Colour}
 use Rattle.frz_board.specs.declared.man.Kind.{Kind}
 use Rattle.frz_board.specs.declared.man.Kind.TheVariants.{King, Queen, Rook, Bishop, Knight, Pawn}
@@ -93,10 +93,6 @@ on_target p targets moves own t eo et h k l there =
 -- one of the squares to which the man has a way
 abbrev pub has_way : Board → Man → ℕ → ℕ → ℕ → Bool
 has_way p man a squares b = has_square squares b && goes p man.colour man.kind a b
-
-pub way_in : (p : Board) (man : Man) (a squares k : ℕ) → k < 64 → has_square squares k ≡ false →
-    has_way p man a squares k ≡ false
-way_in p man a squares k l h = and_left (has_square squares k) (goes p man.colour man.kind a k) h
 
 -- a man that is no pawn goes where it reaches
 piece_goes : (p : Board) (c : Colour) (k : Kind) (a b : ℕ) → (k ≡ Pawn → ⊥) →
