@@ -8,3 +8,4 @@ mod Put
 mod CountedBits
 mod EndRanks
 mod Hiding
+mod HiddenSquares

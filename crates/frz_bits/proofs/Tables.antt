@@ -7,6 +7,7 @@ use Rattle.frz_board.specs.declared.man.Colour.TheVariants.{White, Black}
 use Rattle.frz_board.specs.Lines.{is_knight_jump, is_king_step, is_rook_line, is_bishop_line, is_between}
 use Rattle.frz_board.specs.Attacks.{pawn_reaches}
 use Rattle.frz_bits.specs.declared.lines.TheConstants.{BETWEEN_LOW, BETWEEN_HIGH}
+use Rattle.frz_bits.specs.declared.shadows.TheConstants.{HIDDEN_LOW, HIDDEN_HIGH}
 use Rattle.frz_bits.specs.declared.reach.TheConstants.{KNIGHT, KING, ROOK, BISHOP}
 use Rattle.frz_bits.specs.declared.pawns.TheConstants.{PAWN, WHITE_PAWN_WAYS, BLACK_PAWN_WAYS}
 use Rattle.frz_squares.specs.SquareSets.{set_of}
@@ -83,21 +84,38 @@ joined_at (h ∷ hs) [] i e = cc
 joined_at (h ∷ hs) (l ∷ ls) zero e = refl
 joined_at (h ∷ hs) (l ∷ ls) (suc i) e = joined_at hs ls i (omega arith)
 
+-- the word of two squares stands at 64 times the one and the other
+word_at : (f : ℕ → ℕ → ℕ → Bool) (hs ls : List ℕ) → length hs ≡ length ls →
+    map (λ i. set_of (f (i / 64) (i % 64))) (range_with_len 0 4096) ≡ joined hs ls →
+    (a b : ℕ) → a < 64 → b < 64 →
+    slice_index hs (64 * a + b) * 2 ^ 32 + slice_index ls (64 * a + b) ≡ set_of (f a b)
+word_at f hs ls same table a b la lb =
+    let i = 64 * a + b in
+    let row : i / 64 ≡ a = omega arith in
+    let column : i % 64 ≡ b = omega arith in
+    sym (joined_at hs ls i same)
+    ∙ in_table (λ k. set_of (f (k / 64) (k % 64))) 4096 (joined hs ls) table i (omega arith)
+    ∙ ap (λ j. set_of (f j (i % 64))) row
+    ∙ ap (λ j. set_of (f a j)) column
+
 between_table : map (λ i. set_of (λ s. is_between (i / 64) s (i % 64))) (range_with_len 0 4096)
     ≡ joined BETWEEN_HIGH BETWEEN_LOW
 unfolding set_of joined
 between_table = refl
 
--- the word of two squares stands at 64 times the one and the other
 pub between_at : (a b : ℕ) → a < 64 → b < 64 →
     slice_index BETWEEN_HIGH (64 * a + b) * 2 ^ 32 + slice_index BETWEEN_LOW (64 * a + b)
     ≡ set_of (λ s. is_between a s b)
 between_at a b la lb =
-    let i = 64 * a + b in
-    let row : i / 64 ≡ a = omega arith in
-    let column : i % 64 ≡ b = omega arith in
-    sym (joined_at BETWEEN_HIGH BETWEEN_LOW i refl)
-    ∙ in_table (λ k. set_of (λ s. is_between (k / 64) s (k % 64))) 4096
-    (joined BETWEEN_HIGH BETWEEN_LOW) between_table i (omega arith)
-    ∙ ap (λ j. set_of (λ s. is_between j s (i % 64))) row
-    ∙ ap (λ j. set_of (λ s. is_between a s j)) column
+    word_at (λ a b s. is_between a s b) BETWEEN_HIGH BETWEEN_LOW refl between_table a b la lb
+
+hidden_table : map (λ i. set_of (λ b. is_between (i / 64) (i % 64) b)) (range_with_len 0 4096)
+    ≡ joined HIDDEN_HIGH HIDDEN_LOW
+unfolding set_of joined
+hidden_table = refl
+
+pub hidden_at : (a m : ℕ) → a < 64 → m < 64 →
+    slice_index HIDDEN_HIGH (64 * a + m) * 2 ^ 32 + slice_index HIDDEN_LOW (64 * a + m)
+    ≡ set_of (λ b. is_between a m b)
+hidden_at a m la lm =
+    word_at (λ a m b. is_between a m b) HIDDEN_HIGH HIDDEN_LOW refl hidden_table a m la lm

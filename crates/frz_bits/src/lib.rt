@@ -9,6 +9,7 @@ mod pawns;
 mod rays;
 mod reach;
 mod sets;
+mod shadows;
 mod shape;
 mod ways;
 mod word;

@@ -4,19 +4,22 @@ ghost use Rattle.std.specs.Prelude.{◌≡◌, ◌&&◌};
 ghost use Rattle.frz_squares.specs.SquareSets.{set_of, has_square};
 ghost use Rattle.frz_bits.specs.Rays.{is_open, is_rook_ray, is_bishop_ray};
 
-use super::sets::{between, bishop_lines, rook_lines};
-use super::word::{next_square, with_square};
+use super::sets::{bishop_lines, hidden, rook_lines};
+use super::ways::queen_lines;
+use super::word::{both, next_square, without};
 use frz_board::Square;
 
-/// Those squares of `lines`, lines through `s`, that no occupied square hides from `s`.
+/// Those squares of `lines`, lines through `s`, that no occupied square hides from `s`. Each occupied
+/// square on a line with `s` hides those behind it.
 pub(crate) fn seen(s: Square, lines: u64, occupied: u64) -> u64
     ensures { result ≡ set_of (λ b. has_square lines b && is_open occupied s b) }
 {
-    let mut word = 0;
+    let men = both(occupied, queen_lines(s));
+    let mut word = lines;
     let mut n = 0;
-    while let Some(b) = next_square(lines, n) {
-        word = with_square(word, b, between(s, b) & occupied == 0);
-        n = b.number() + 1;
+    while let Some(m) = next_square(men, n) {
+        word = without(word, hidden(s, m));
+        n = m.number() + 1;
     }
     word
 }

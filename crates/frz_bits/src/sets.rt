@@ -8,6 +8,7 @@ ghost use Rattle.frz_squares.specs.SquareSets.{set_of};
 use super::lines::{BETWEEN_HIGH, BETWEEN_LOW};
 use super::pawns::PAWN;
 use super::reach::{BISHOP, KING, KNIGHT, ROOK};
+use super::shadows::{HIDDEN_HIGH, HIDDEN_LOW};
 use frz_board::{Colour, Square};
 
 /// The squares that a knight on `s` attacks.
@@ -66,4 +67,13 @@ pub fn between(a: Square, b: Square) -> u64
 {
     let i = 64 * a.number() as usize + b.number() as usize;
     joined(BETWEEN_HIGH[i], BETWEEN_LOW[i])
+}
+
+/// The squares that a man on `m` hides from `a`: those behind him on the line from `a` to him, and
+/// none where the two share no line.
+pub(crate) fn hidden(a: Square, m: Square) -> u64
+    ensures { result ≡ set_of (λ b. is_between a m b) }
+{
+    let i = 64 * a.number() as usize + m.number() as usize;
+    joined(HIDDEN_HIGH[i], HIDDEN_LOW[i])
 }

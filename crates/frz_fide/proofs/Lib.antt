@@ -22,6 +22,7 @@ mod KingGoes
 mod Skip
 mod Listed
 mod Targets
+mod PawnTargets
 mod Checking
 mod Choosing
 mod RankTests

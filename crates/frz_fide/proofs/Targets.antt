@@ -1,7 +1,7 @@
 -- The squares that a man may go to on some board are enough.
-use Rattle.std.proofs.Common.{◌≡◌, ℕ, ◌<◌, ◌≤◌, List, [], ◌++◌, Bool, true, false, ◌&&◌, ◌||◌, not, refl, ap, sym, ◌∙◌, arith, Some, inl, inr}
+use Rattle.std.proofs.Common.{◌≡◌, ℕ, ◌<◌, ◌≤◌, ◌^◌, List, [], ◌++◌, Bool, true, false, ◌&&◌, ◌||◌, not, refl, ap, sym, ◌∙◌, arith, Some, inl, inr}
 use Rattle.std.specs.Prelude.{◌==◌, nat_le}
-use Rattle.std.proofs.lemmas.Bool.{and_parts, eqb-true, le-leb, and_left, and_right, cases_Bool, not-true}
+use Rattle.std.proofs.lemmas.Bool.{and_parts, eqb-true, le-leb, and_right, cases_Bool, not-true}
 use Rattle.frz_board.specs.declared.man.Colour.{Colour}
 use Rattle.frz_board.specs.declared.man.Kind.{Kind}
 use Rattle.frz_board.specs.declared.man.Kind.TheVariants.{King, Queen, Rook, Bishop, Knight, Pawn}
@@ -10,11 +10,11 @@ use Rattle.frz_board.specs.Squares.{files_apart, is_forward}
 use Rattle.frz_board.specs.Lines.{is_rook_line, is_bishop_line}
 use Rattle.frz_board.specs.Men.{other_of}
 use Rattle.frz_board.specs.Boards.{Board, man_on, holds, is_empty}
-use Rattle.frz_board.specs.Attacks.{is_clear}
+use Rattle.frz_board.specs.Attacks.{is_clear, reaches}
 use Rattle.frz_bits.specs.Words.{IsNext, HasNoneFrom}
 use Rattle.frz_bits.specs.Ways.{may_go}
 use Rattle.frz_squares.specs.SquareSets.{set_of, has_square}
-use Rattle.frz_squares.proofs.Lemmas.{has-set_of, has-zero}
+use Rattle.frz_squares.proofs.Lemmas.{has-set_of, has-zero, set_of-from}
 use Rattle.frz_bits.proofs.Lemmas.{in_set, in_side}
 use Rattle.frz_fide.specs.Legal.{goes, is_home, passed_over, is_target}
 use Rattle.frz_fide.specs.SquareBySquare.{legal_between, legal_from, legal_by_squares}
@@ -94,9 +94,33 @@ on_target p targets moves own t eo et h k l there =
 abbrev pub has_way : Board → Man → ℕ → ℕ → ℕ → Bool
 has_way p man a squares b = has_square squares b && goes p man.colour man.kind a b
 
-pub way_in : (p : Board) (man : Man) (a squares k : ℕ) → k < 64 → has_square squares k ≡ false →
-    has_way p man a squares k ≡ false
-way_in p man a squares k l h = and_left (has_square squares k) (goes p man.colour man.kind a k) h
+-- a man that is no pawn goes where it reaches
+piece_goes : (p : Board) (c : Colour) (k : Kind) (a b : ℕ) → (k ≡ Pawn → ⊥) →
+    goes p c k a b ≡ reaches p c k a b
+piece_goes p c King a b e = refl
+piece_goes p c Queen a b e = refl
+piece_goes p c Rook a b e = refl
+piece_goes p c Bishop a b e = refl
+piece_goes p c Knight a b e = refl
+piece_goes p c Pawn a b e = absurd (e refl)
+
+-- the squares of a word that a man who is no pawn reaches
+pub piece_ways : (p : Board) (man : Man) (a squares w : ℕ) → (man.kind ≡ Pawn → ⊥) →
+    w < 2 ^ 64 → ((b : ℕ) → b < 64 →
+    has_square w b ≡ (has_square squares b && reaches p man.colour man.kind a b)) →
+    w ≡ set_of (has_way p man a squares)
+piece_ways p man a squares w e small h =
+    set_of-from w (has_way p man a squares) small
+    (λ b l. h b l ∙ ap (λ x. has_square squares b && x)
+    (sym (piece_goes p man.colour man.kind a b e)))
+
+-- to a square of the ways the man has a way, and it is one of the targets
+pub on_way : (p : Board) (man : Man) (a targets ways : ℕ) → ways ≡ set_of (has_way p man a targets) →
+    (k : ℕ) → k < 64 → has_square ways k ≡ true →
+    (has_square targets k ≡ true) × (goes p man.colour man.kind a k ≡ true)
+on_way p man a targets ways e k l h =
+    and_parts (has_square targets k) (goes p man.colour man.kind a k)
+    (sym (in_set (has_way p man a targets) ways k e l) ∙ h)
 
 -- no legal move of the man leads to a square to which it has no way
 pub off_way : (p : Board) (man : Man) (a targets ways : ℕ) → man_on p a ≡ Some man →

@@ -1,6 +1,6 @@
 //! The list of legal moves.
 
-ghost use Rattle.std.specs.Prelude.{Contains, IsTrue, ◌↔◌, ◌≡◌, ◌+◌, ◌≤◌, ◌++◌, ◌∷◌, [], length, filter, true, false, ◌&&◌, Some};
+ghost use Rattle.std.specs.Prelude.{Contains, ◌↔◌, ◌≡◌, ◌+◌, ◌≤◌, ◌++◌, ◌∷◌, [], length, filter, true, false, ◌&&◌, Some};
 ghost use Rattle.std.specs.List.Sorted.{IsStrictlySortedBy};
 ghost use Rattle.arrayvec.specs.ArrayVec.{array_vec_len};
 ghost use Rattle.frz_board.specs.Boards.{man_on, holds};
@@ -14,7 +14,7 @@ ghost use Rattle.frz_fide.specs.Listing.{legal_moves_of};
 ghost use Rattle.frz_fide.specs.SquareBySquare.{legal_between, legal_from, legal_by_squares, chosen};
 
 use super::exposing::{keeps_safe, may_expose};
-use super::ways::{is_way, open_ways};
+use super::ways::open_ways;
 use arrayvec::ArrayVec;
 use frz_bits::{Bitboards, move_set, next_square, without};
 use frz_board::{Kind, Man, Move, Position, Square};
@@ -125,7 +125,8 @@ fn must_choose(man: Man, to: Square) -> bool
     man.kind == Kind::Pawn && to.is_last_rank(man.colour)
 }
 
-/// Adds the legal moves of the man on `from` to `to`, where no man of its side stands.
+/// Adds the legal moves of the man on `from` to `to`, to which it has a way, and where no man of its
+/// side stands.
 #[tactic(auto, using(crate::proofs::Skip::skips))]
 fn add_between(
     p: &Bitboards,
@@ -140,32 +141,23 @@ fn add_between(
     requires man { man_on p.now from ≡ Some man }
     requires own { same_colour man.colour p.now.turn ≡ true }
     requires free { holds p.now p.now.turn to ≡ false }
+    requires way { goes p.now man.colour man.kind from to ≡ true }
     requires bare { bare.now ≡ board_without p.now from }
     requires exposing { exposing ≡ man_may_expose p.now man from }
     requires room { array_vec_len list.old + length (legal_between p.now from to) ≤ 1024 }
     ensures { list.new.items ≡ list.old.items ++ legal_between p.now from to }
 {
-    if is_way(p, man, from, to) {
-        if must_choose(man, to) {
-            add_choices(p, man, from, to, bare, exposing, list);
-        } else {
-            let promo = None;
-            add_if_safe(p, man, Move { from, to, promo }, bare, exposing, list);
-        }
+    if must_choose(man, to) {
+        add_choices(p, man, from, to, bare, exposing, list);
+    } else {
+        let promo = None;
+        add_if_safe(p, man, Move { from, to, promo }, bare, exposing, list);
     }
 }
 
-/// Is the man a pawn that has a way to none of the squares, as one that is blocked and takes
-/// nothing?
-fn is_stuck(p: &Bitboards, man: Man, from: Square, squares: u64) -> bool
-    ensures { IsTrue result →
-        set_of (λ b. has_square squares b && goes p.now man.colour man.kind from b) ≡ 0 }
-{
-    man.kind == Kind::Pawn && open_ways(p, man, from, squares) == 0
-}
-
-/// Adds the legal moves of the man on `from`. It tries the squares where such a man may go on some
-/// board, except those that its own side holds. For a pawn that is stuck, no other board is made.
+/// Adds the legal moves of the man on `from`, square by square of those to which it has a way and
+/// that its own side does not hold. For a man that has none, as a pawn that is blocked and takes
+/// nothing, no other board is made.
 #[tactic(auto, using(crate::proofs::Order::loops))]
 fn add_from(p: &Bitboards, man: Man, from: Square, list: &mut MoveList)
     requires valid { IsValid p.now }
@@ -175,13 +167,14 @@ fn add_from(p: &Bitboards, man: Man, from: Square, list: &mut MoveList)
     ensures { list.new.items ≡ list.old.items ++ legal_from p.now from }
 {
     let targets = without(move_set(man, from), p.side(p.turn()));
-    if is_stuck(p, man, from, targets) {
+    let ways = open_ways(p, man, from, targets);
+    if ways == 0 {
         return;
     }
     let bare = p.put(from, 0);
     let exposing = may_expose(p, man, from, &bare);
     let mut n = 0;
-    while let Some(to) = next_square(targets, n) {
+    while let Some(to) = next_square(ways, n) {
         add_between(p, man, from, to, &bare, exposing, list);
         n = to.number() + 1;
     }

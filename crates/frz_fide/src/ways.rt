@@ -1,10 +1,10 @@
 //! The ways in which men go from square to square, whatever becomes of their king.
 
-ghost use Rattle.std.specs.Prelude.{◌≡◌, ◌&&◌};
+ghost use Rattle.std.specs.Prelude.{ℕ, ◌≡◌, ◌<◌, ◌&&◌, true, false};
 ghost use Rattle.frz_squares.specs.SquareSets.{has_square, set_of};
 ghost use Rattle.frz_fide.specs.Legal.{passed_over, captures, takes_in_passing, steps, advances, goes, promotes};
 
-use frz_bits::{Bitboards, next_square, with_square};
+use frz_bits::{Bitboards, next_square, pawn_set, with_square, without};
 use frz_board::{Colour, Kind, Man, Square};
 
 /// The square that a pawn passes over when it advances two squares.
@@ -55,18 +55,52 @@ pub fn is_way(p: &Bitboards, man: Man, a: Square, b: Square) -> bool
     }
 }
 
-/// The bitboard of those of `squares` to which the man on `a` has a way.
-pub fn open_ways(p: &Bitboards, man: Man, a: Square, squares: u64) -> u64
+/// Those of `squares` that a pawn on `a` has to look at: diagonally the other side's men, straight
+/// ahead the empty squares. With a target all of them, since it may be captured en passant.
+fn pawn_targets(p: &Bitboards, man: Man, a: Square, squares: u64) -> u64
+    requires { man.kind ≡ Kind.Pawn }
+    ensures within { (b : ℕ) → b < 64 → has_square result b ≡ true → has_square squares b ≡ true }
+    ensures others { (b : ℕ) → b < 64 → has_square result b ≡ false →
+        (has_square squares b && goes p.now man.colour man.kind a b) ≡ false }
+{
+    match p.ep() {
+        Some(_) => squares,
+        None => {
+            let slanting = pawn_set(man.colour, a);
+            let untaken = without(slanting, p.side(man.colour.other()));
+            let blocked = without(p.occupied(), slanting);
+            let near = without(squares, untaken);
+            without(near, blocked)
+        }
+    }
+}
+
+/// `open_ways` for a pawn, square by square.
+fn pawn_ways(p: &Bitboards, man: Man, a: Square, squares: u64) -> u64
+    requires { man.kind ≡ Kind.Pawn }
     ensures { result ≡
         set_of (λ b. has_square squares b && goes p.now man.colour man.kind a b) }
 {
+    let near = pawn_targets(p, man, a, squares);
     let mut word = 0;
     let mut n = 0;
-    while let Some(b) = next_square(squares, n) {
+    while let Some(b) = next_square(near, n) {
         word = with_square(word, b, is_way(p, man, a, b));
         n = b.number() + 1;
     }
     word
+}
+
+/// The bitboard of those of `squares` to which the man on `a` has a way. What a piece reaches is
+/// told by words.
+pub fn open_ways(p: &Bitboards, man: Man, a: Square, squares: u64) -> u64
+    ensures { result ≡
+        set_of (λ b. has_square squares b && goes p.now man.colour man.kind a b) }
+{
+    match man.kind {
+        Kind::Pawn => pawn_ways(p, man, a, squares),
+        _ => p.reached(man, a, squares),
+    }
 }
 
 /// Is `promo` right for a man of this kind that arrives on `b`? A pawn on its last rank promotes to

@@ -1,10 +1,9 @@
-use Rattle.std.proofs.Common.{◌≡◌, ◌≤◌, ◌-◌}
-use Rattle.frz_squares.specs.SquareSets.{bits_below}
-use Rattle.frz_bits.proofs.Gather.{sees}
+use Rattle.std.proofs.Common.{◌<◌, ◌≤◌, ◌-◌, ◌^◌}
+use Rattle.frz_bits.proofs.HiddenSquares.{IsSeen}
 use Rattle.frz_bits.proofs.rays.seen.Given as goal
 
-abbrev pub invariant-loop-b : goal.invariant-loop-b
-invariant-loop-b l = (l.n ≤ 64) × (l.word ≡ bits_below (sees l.s l.lines l.occupied) l.n)
+abbrev pub invariant-loop-m : goal.invariant-loop-m
+invariant-loop-m l = (l.n ≤ 64) × (l.word < 2 ^ 64) × IsSeen l.s l.lines l.occupied l.n l.word
 
-abbrev pub decreases-loop-b : goal.decreases-loop-b
-decreases-loop-b l = 64 - l.n
+abbrev pub decreases-loop-m : goal.decreases-loop-m
+decreases-loop-m l = 64 - l.n

@@ -1,7 +1,7 @@
 use Rattle.std.proofs.Common.{◌≡◌, ◌≤◌, ◌-◌}
 use Rattle.frz_squares.specs.SquareSets.{bits_below}
 use Rattle.frz_fide.proofs.Targets.{has_way}
-use Rattle.frz_fide.proofs.ways.open_ways.Given as goal
+use Rattle.frz_fide.proofs.ways.pawn_ways.Given as goal
 
 abbrev pub invariant-loop-b : goal.invariant-loop-b
 invariant-loop-b l =
