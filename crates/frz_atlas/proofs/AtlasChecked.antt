@@ -31,7 +31,7 @@ use Rattle.frz_atlas.specs.Opening.{IsOneRefused, OpensAll, RefusesAll}
 use Rattle.frz_atlas.specs.declared.checking.Checked.{Checked}
 use Rattle.frz_atlas.specs.declared.fault.AtlasFault.{AtlasFault}
 use Rattle.frz_atlas.specs.declared.fault.AtlasFault.TheVariants as atlas
-use Rattle.frz_atlas.proofs.Behind.{may_hold_some, some_helds}
+use Rattle.frz_atlas.proofs.Several.{may_hold_some, some_helds}
 use Rattle.frz_atlas.proofs.ExactTables.{kept_backs}
 
 -- a file that is refused is refused as a table

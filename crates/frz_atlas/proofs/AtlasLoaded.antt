@@ -28,7 +28,7 @@ use Rattle.frz_atlas.specs.declared.fault.AtlasFault.TheVariants as atlas
 use Rattle.frz_atlas.specs.declared.fault.BackFault.TheVariants.{Refused, Wrong}
 use Rattle.frz_atlas.specs.declared.reading.LoadedAtlas.{LoadedAtlas}
 use Rattle.frz_atlas.proofs.AtlasChecked as checks
-use Rattle.frz_atlas.proofs.Behind.{may_hold_some, some_helds}
+use Rattle.frz_atlas.proofs.Several.{may_hold_some, some_helds}
 
 -- a refusal of the table's own file is one
 pub own_refused : (opened_as : Option (List ℕ) → Result Contents TableFault) (held : Option (List ℕ))

@@ -1,17 +1,15 @@
 -- The causes of the faults of several tables.
 use Rattle.std.proofs.Common.{refl, subst, ℕ, List, Result, Ok, Err}
-use Rattle.frz_store.specs.Outside.{Rose, StoreCauses}
+use Rattle.frz_store.specs.Outside.{Rose}
 use Rattle.frz_store.specs.Told.{StoreTold, StoreFine}
-use Rattle.frz_store.specs.declared.outside.StoreFault.{StoreFault}
-use Rattle.frz_store.specs.declared.outside.StoreFault.TheVariants as store
 use Rattle.frz_table.specs.declared.fault.TableFault.{TableFault}
 use Rattle.frz_table.specs.declared.fault.TableFault.TheVariants.{Missing, Magic, Truncated, Extra, Rules, Size, Failed, NoMemory}
-use Rattle.frz_table.specs.Faults.{TableCauses, fault_of}
+use Rattle.frz_table.specs.Faults.{TableCauses}
 use Rattle.frz_table.proofs.Lemmas.{fine_after}
 use Rattle.frz_check.specs.declared.verdict.Verdict.{Verdict}
 use Rattle.frz_chain.specs.declared.back.BackTable.{BackTable}
 use Rattle.frz_backs.specs.Links.{Link}
-use Rattle.frz_atlas.specs.Causes.{HasAtlasCause, HasFileCause, HasOneCause, back_fault}
+use Rattle.frz_atlas.specs.Causes.{HasAtlasCause, HasFileCause, HasOneCause, IsFileCause, back_fault}
 use Rattle.frz_atlas.specs.Opening.{GivesBack}
 use Rattle.frz_atlas.specs.declared.fault.AtlasFault.{AtlasFault}
 use Rattle.frz_atlas.specs.declared.fault.AtlasFault.TheVariants as atlas
@@ -32,43 +30,17 @@ file_cause T (Err (Extra n due)) old new h = record { faults = h.refused; wants 
 file_cause T (Err (Rules f)) old new h = record { faults = h.refused; wants = h.wants_refused }
 file_cause T (Err (Size n due)) old new h = record { faults = h.refused; wants = h.wants_refused }
 
-pub store_cause : (T U : Type 0) (fault : StoreFault) (old new : StoreTold)
-    → StoreCauses {T = T} old.faults new.faults old.wants new.wants (Err fault)
-    → HasFileCause {T = U} (Err (fault_of fault)) old new
-store_cause T U store.Failed old new h = h.failed refl
-store_cause T U store.NoMemory old new h = tt
-
 -- calls before that succeeded change no cause
-pub file_later : (T : Type 0) (result : Result T TableFault) (old mid new : StoreTold)
-    → StoreFine old mid → HasFileCause result mid new → HasFileCause result old new
-file_later T (Ok x) old mid new fine h = fine_after old mid new fine h
-file_later T (Err Failed) old mid new fine h = subst (λ (n : ℕ). Rose n new.faults) fine.faults h
-file_later T (Err NoMemory) old mid new fine h = tt
-file_later T (Err Missing) old mid new fine h = fine_after old mid new fine h
-file_later T (Err Magic) old mid new fine h = fine_after old mid new fine h
-file_later T (Err (Truncated n due)) old mid new fine h = fine_after old mid new fine h
-file_later T (Err (Extra n due)) old mid new fine h = fine_after old mid new fine h
-file_later T (Err (Rules f)) old mid new fine h = fine_after old mid new fine h
-file_later T (Err (Size n due)) old mid new fine h = fine_after old mid new fine h
-
--- a table's fault is one of those behind
-pub one_cause : (T U : Type 0) (fault : TableFault) (old new : StoreTold)
-    → HasFileCause {T = T} (Err fault) old new
-    → HasOneCause {T = U} (Err (one.Refused fault)) old new
-one_cause T U Failed old new h = h
-one_cause T U NoMemory old new h = tt
-one_cause T U Missing old new h = h
-one_cause T U Magic old new h = h
-one_cause T U (Truncated n due) old new h = h
-one_cause T U (Extra n due) old new h = h
-one_cause T U (Rules f) old new h = h
-one_cause T U (Size n due) old new h = h
-
-pub one_later : (T U : Type 0) (fault : TableFault) (old mid new : StoreTold) → StoreFine old mid
-    → HasFileCause {T = T} (Err fault) mid new
-    → HasOneCause {T = U} (Err (one.Refused fault)) old new
-one_later T U fault old mid new fine h =
-    one_cause T U fault old new (file_later T (Err fault) old mid new fine h)
+pub file_later : (fault : TableFault) (old mid new : StoreTold) → StoreFine old mid
+    → IsFileCause fault mid new → IsFileCause fault old new
+file_later Failed old mid new fine h = subst (λ (n : ℕ). Rose n new.faults) fine.faults h
+file_later NoMemory old mid new fine h = tt
+file_later Missing old mid new fine h = fine_after old mid new fine h
+file_later Magic old mid new fine h = fine_after old mid new fine h
+file_later (Truncated n due) old mid new fine h = fine_after old mid new fine h
+file_later (Extra n due) old mid new fine h = fine_after old mid new fine h
+file_later (Rules f) old mid new fine h = fine_after old mid new fine h
+file_later (Size n due) old mid new fine h = fine_after old mid new fine h
 
 -- the store refused no call, and the codes were exact or not
 pub given_cause : (link : Link) (text : List ℕ) (v : Verdict) (result : Result BackTable BackFault)
@@ -83,16 +55,19 @@ pub atlas_cause : (T U : Type 0) (place : ℕ) (fault : BackFault) (old mid new 
     → StoreFine old mid → HasOneCause {T = T} (Err fault) mid new
     → HasAtlasCause {T = U} (Err (back_fault place fault)) old new
 atlas_cause T U place (one.Wrong wrong) old mid new fine h = fine_after old mid new fine h
-atlas_cause T U place (one.Refused Failed) old mid new fine h =
-    subst (λ (n : ℕ). Rose n new.faults) fine.faults h
-atlas_cause T U place (one.Refused NoMemory) old mid new fine h = tt
-atlas_cause T U place (one.Refused Missing) old mid new fine h = fine_after old mid new fine h
-atlas_cause T U place (one.Refused Magic) old mid new fine h = fine_after old mid new fine h
-atlas_cause T U place (one.Refused (Truncated n due)) old mid new fine h =
-    fine_after old mid new fine h
-atlas_cause T U place (one.Refused (Extra n due)) old mid new fine h = fine_after old mid new fine h
-atlas_cause T U place (one.Refused (Rules f)) old mid new fine h = fine_after old mid new fine h
-atlas_cause T U place (one.Refused (Size n due)) old mid new fine h = fine_after old mid new fine h
+atlas_cause T U place (one.Refused fault) old mid new fine h =
+    at fault (file_later fault old mid new fine h)
+  where
+    at : (f : TableFault) → IsFileCause f old new
+        → HasAtlasCause {T = U} (Err (back_fault place (one.Refused f))) old new
+    at Failed k = k
+    at NoMemory k = tt
+    at Missing k = k
+    at Magic k = k
+    at (Truncated n due) k = k
+    at (Extra n due) k = k
+    at (Rules f) k = k
+    at (Size n due) k = k
 
 pub atlas_later : (T : Type 0) (result : Result T AtlasFault) (old mid new : StoreTold)
     → StoreFine old mid

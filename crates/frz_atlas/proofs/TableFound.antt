@@ -10,13 +10,12 @@ use Rattle.frz_rules.proofs.Lemmas.{text_sound}
 use Rattle.frz_store.specs.Bytes.{AreBytes, HoldsBytes}
 use Rattle.frz_store.specs.Told.{StoreTold}
 use Rattle.frz_table.specs.declared.fault.TableFault.{TableFault}
-use Rattle.frz_table.specs.declared.fault.TableFault.TheVariants.{Missing, Magic, Truncated, Extra, Rules, Size, Failed, NoMemory}
 use Rattle.frz_table.specs.Faults.{IsOutside}
-use Rattle.frz_table.specs.Layout.{pieces_of}
-use Rattle.frz_table.specs.Opening.{Contents, Refuses, contents_of, kept_text, opened, table_format}
+use Rattle.frz_table.specs.Layout.{kind_by, pieces_of}
+use Rattle.frz_table.specs.Opening.{Contents, contents_of, kept_text, opened, table_format}
 use Rattle.frz_table.specs.Possible.{MayHold, MayKeep}
 use Rattle.frz_table.specs.Tables.{Table, table_size}
-use Rattle.frz_table.proofs.Lemmas.{belongs, held_bytes, text_kept}
+use Rattle.frz_table.proofs.Lemmas.{belongs, held_bytes, outside_refuses, text_kept}
 use Rattle.frz_check.specs.declared.verdict.Verdict.{Verdict}
 use Rattle.frz_check.specs.Kept.{IsVerdictOn, kept_codes, opened_size}
 use Rattle.frz_check.specs.Verdicts.{IsVerdict}
@@ -27,33 +26,21 @@ use Rattle.frz_chain.specs.declared.back.BackTable.{BackTable}
 use Rattle.frz_backs.specs.Links.{Link, value_over}
 use Rattle.frz_backs.specs.Loaded.{leans_as}
 use Rattle.frz_backs.proofs.Lemmas.{over_small}
-use Rattle.frz_atlas.specs.Behind.{IsJudgedOver, TableBytes, kind_by, kind_held, kind_of, leans, link_of}
+use Rattle.frz_atlas.specs.Behind.{IsJudgedOver, TableBytes, kind_of, leans, link_of}
 use Rattle.frz_atlas.specs.Costs.{WithinOne, size_held}
-use Rattle.frz_atlas.specs.Opening.{GivesBack, IsOwnKind, MayBeRefused, MayOpenOwn, MayRefuseOwn, OpensOver, RefusesOver, link_with}
+use Rattle.frz_atlas.specs.Opening.{GivesBack, IsOwnKind, MayOpenOwn, MayRefuseOwn, OpensOver, RefusesOver, link_with}
 use Rattle.frz_atlas.specs.declared.fault.BackFault.{BackFault}
 use Rattle.frz_atlas.specs.declared.fault.BackFault.TheVariants as one
 use Rattle.frz_atlas.proofs.OwnKinds.{leans_by}
 
--- a file that is refused is refused behind another
-file_refused : (before : List Back) (held : Option (List ℕ)) (fault : TableFault)
-    → Refuses (opened (table_format (kind_held held)) held) fault
-    → MayBeRefused before held (one.Refused fault)
-file_refused before held Missing h = h
-file_refused before held Magic h = h
-file_refused before held (Truncated length due) h = h
-file_refused before held (Extra length due) h = h
-file_refused before held (Rules fault) h = h
-file_refused before held (Size kept due) h = h
-file_refused before held Failed h = tt
-file_refused before held NoMemory h = tt
-
+-- it was not opened
 pub not_opened : (before : List Back) (name : List ℕ) (old new : StoreTold) (steps : ℕ)
     (fault : TableFault) → new.calls ≤ old.calls + 7 → MayRefuseOwn name old new fault
     → RefusesOver before name old new steps steps (one.Refused fault)
 not_opened before name old new steps fault calls h = record {
   held = h.held;
   may = h.may;
-  refuses = file_refused before h.held fault h.refuses;
+  refuses = h.refuses;
   within = record {
     steps = omega arith;
     asked = omega (arith, h.asked);
@@ -84,17 +71,6 @@ within_one bytes contents old mid new steps_before steps_now opens asked calls m
       calls = omega (arith, pieces, calls, more_calls);
     }
 
-outside_refused : (before : List Back) (held : Option (List ℕ)) (fault : TableFault)
-    → IsOutside fault → MayBeRefused before held (one.Refused fault)
-outside_refused before held Missing h = absurd h
-outside_refused before held Magic h = absurd h
-outside_refused before held (Truncated length due) h = absurd h
-outside_refused before held (Extra length due) h = absurd h
-outside_refused before held (Rules fault) h = absurd h
-outside_refused before held (Size kept due) h = absurd h
-outside_refused before held Failed h = tt
-outside_refused before held NoMemory h = tt
-
 -- it was opened, and the lists of its codes were not loaded
 pub not_loaded : (before : List Back) (table : Table) (name : List ℕ) (old mid new : StoreTold)
     (steps_before steps_now : ℕ) (fault : TableFault)
@@ -108,7 +84,8 @@ not_loaded before table name old mid new steps_before steps_now fault opens aske
     more_calls steps outside = record {
       held = Some opens.bytes;
       may = opens.may;
-      refuses = outside_refused before (Some opens.bytes) fault outside;
+      refuses = outside_refuses (opened (table_format (kind_of opens.bytes)) (Some opens.bytes)) fault
+          outside;
       within = within_one opens.bytes (contents_of table) old mid new steps_before steps_now
           opens.opens asked calls more_asked more_calls steps;
     }

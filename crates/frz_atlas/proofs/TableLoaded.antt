@@ -6,7 +6,7 @@ use Rattle.frz_store.specs.Bytes.{HoldsBytes}
 use Rattle.frz_store.specs.Told.{StoreTold}
 use Rattle.frz_table.specs.declared.fault.TableFault.{TableFault}
 use Rattle.frz_table.specs.Faults.{IsOutside}
-use Rattle.frz_table.specs.Layout.{pieces_of}
+use Rattle.frz_table.specs.Layout.{kind_by, pieces_of}
 use Rattle.frz_table.specs.Opening.{Contents, contents_of, table_format}
 use Rattle.frz_table.specs.Possible.{MayKeep}
 use Rattle.frz_table.specs.Tables.{Table, table_size}
@@ -14,7 +14,7 @@ use Rattle.frz_table.proofs.Lemmas.{belongs, held_bytes, outside_refuses}
 use Rattle.frz_check.proofs.Lemmas.{file_opens}
 use Rattle.frz_chain.specs.declared.back.BackTable.{BackTable}
 use Rattle.frz_backs.specs.Loaded.{leans_as}
-use Rattle.frz_atlas.specs.Behind.{kind_by, kind_of}
+use Rattle.frz_atlas.specs.Behind.{kind_of}
 use Rattle.frz_atlas.specs.Loading.{LoadsOne, RefusesOne, WithinLoadingOne, opened_own}
 use Rattle.frz_atlas.specs.Opening.{IsOwnKind, MayOpenOwn, MayRefuseOwn}
 use Rattle.frz_atlas.proofs.TableFound.{link_kept, within_one}

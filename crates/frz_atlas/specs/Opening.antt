@@ -3,8 +3,8 @@ use Rattle.std.specs.Prelude.{◌≡◌, ◌≤◌, ◌+◌, ℕ, List, [], leng
 use Rattle.frz_store.specs.Files.{Files}
 use Rattle.frz_store.specs.Told.{StoreTold}
 use Rattle.frz_table.specs.declared.fault.TableFault.{TableFault}
-use Rattle.frz_table.specs.declared.fault.TableFault.TheVariants.{Failed, NoMemory}
 use Rattle.frz_table.specs.declared.kind.FileKind.{FileKind}
+use Rattle.frz_table.specs.Layout.{kind_by}
 use Rattle.frz_table.specs.Numbers.{AreBytes}
 use Rattle.frz_table.specs.Opening.{Contents, Refuses, opened, table_format}
 use Rattle.frz_table.specs.Possible.{MayHold, held_text}
@@ -15,7 +15,7 @@ use Rattle.frz_chain.specs.Books.{Back, back_with}
 use Rattle.frz_chain.specs.declared.back.BackTable.{BackTable}
 use Rattle.frz_backs.specs.Links.{Link}
 use Rattle.frz_backs.specs.Loaded.{leans_as, link_loaded}
-use Rattle.frz_atlas.specs.Behind.{AreJudged, IsJudgedOver, IsRefusedAt, IsRefusedOver, TableBytes, kind_by, kind_held, kind_of, link_of}
+use Rattle.frz_atlas.specs.Behind.{AreJudged, HasWrongOver, IsJudgedOver, IsRefusedAt, TableBytes, kind_held, kind_of, link_of}
 use Rattle.frz_atlas.specs.Costs.{WithinAll, WithinOne}
 use Rattle.frz_atlas.specs.Held.{MayHoldAll, all_held}
 use Rattle.frz_atlas.specs.declared.fault.AtlasFault.{AtlasFault}
@@ -72,9 +72,9 @@ pub record OpensOver (before : List Back) (name : List ℕ) (given : BackTable) 
 -- what the name holds is refused for this reason; nothing is said where the store failed or memory
 -- ran out
 abbrev pub MayBeRefused : List Back → Option (List ℕ) → BackFault → Type 0
-MayBeRefused before held (one.Refused Failed) = ⊤
-MayBeRefused before held (one.Refused NoMemory) = ⊤
-MayBeRefused before held fault = IsRefusedOver before held fault
+MayBeRefused before held (one.Refused fault) =
+    Refuses (opened (table_format (kind_held held)) held) fault
+MayBeRefused before held (one.Wrong wrong) = HasWrongOver before held wrong
 
 pub record RefusesOver (before : List Back) (name : List ℕ) (old new : StoreTold)
     (steps_before steps_now : ℕ) (fault : BackFault) : Type 0 where

@@ -1,12 +1,9 @@
 use Rattle.std.proofs.Common.{map}
 use Rattle.frz_store.specs.Told.{store_of}
-use Rattle.frz_table.specs.Tables.{Table}
 use Rattle.frz_table.proofs.Lemmas.{fine_after}
-use Rattle.frz_check.specs.declared.loading.CheckedCodes.{CheckedCodes}
 use Rattle.frz_chain.specs.FileOn.{loaded_back}
-use Rattle.frz_chain.specs.declared.back.BackTable.{BackTable}
 use Rattle.frz_atlas.specs.Opening.{link_with}
-use Rattle.frz_atlas.proofs.Causes.{given_cause, one_cause, one_later}
+use Rattle.frz_atlas.proofs.Causes.{file_later, given_cause}
 use Rattle.frz_atlas.proofs.TableFound.{JudgedOver, back_given, back_wrong, judged_over, not_loaded, not_opened}
 use Rattle.frz_atlas.proofs.opening.open_over.Given.{Over}
 use Rattle.frz_atlas.proofs.opening.open_over.Goals as goal
@@ -38,9 +35,7 @@ returns-in-Err-clause-refused g c =
     c.args.steps.now c.in-Err.fault c.in-Err.ensures.calls c.in-Err.ensures.refused
 
 pub returns-in-Err-clause-cause : goal.returns-in-Err-clause-cause
-returns-in-Err-clause-cause g c =
-    one_cause Table BackTable c.in-Err.fault (store_of g.S.Store c.args.store.now)
-    (store_of g.S.Store c.open_own.new.store) c.in-Err.ensures.cause
+returns-in-Err-clause-cause g c = c.in-Err.ensures.cause
 
 pub returns-in-Ok-load_over-clause-opened : goal.returns-in-Ok-load_over-clause-opened
 returns-in-Ok-load_over-clause-opened g c =
@@ -69,6 +64,6 @@ returns-in-Err-load_over-clause-refused g c =
 
 pub returns-in-Err-load_over-clause-cause : goal.returns-in-Err-load_over-clause-cause
 returns-in-Err-load_over-clause-cause g c =
-    one_later CheckedCodes BackTable c.in-Err-load_over.fault (store_of g.S.Store c.args.store.now)
+    file_later c.in-Err-load_over.fault (store_of g.S.Store c.args.store.now)
     (store_of g.S.Store c.open_own.new.store) (store_of g.S.Store c.load_over.new.store)
     c.in-Ok.ensures.cause c.in-Err-load_over.ensures.cause
