@@ -6,11 +6,7 @@ use Rattle.frz_table.specs.declared.fault.TableFault.{TableFault}
 use Rattle.frz_table.specs.declared.fault.TableFault.TheVariants.{Missing, Magic, Truncated, Extra, Rules, Size, Failed, NoMemory}
 use Rattle.frz_table.specs.Faults.{TableCauses}
 use Rattle.frz_table.proofs.Lemmas.{fine_after}
-use Rattle.frz_check.specs.declared.verdict.Verdict.{Verdict}
-use Rattle.frz_chain.specs.declared.back.BackTable.{BackTable}
-use Rattle.frz_backs.specs.Links.{Link}
 use Rattle.frz_atlas.specs.Causes.{HasAtlasCause, HasFileCause, HasOneCause, IsFileCause, back_fault}
-use Rattle.frz_atlas.specs.Opening.{GivesBack}
 use Rattle.frz_atlas.specs.declared.fault.AtlasFault.{AtlasFault}
 use Rattle.frz_atlas.specs.declared.fault.AtlasFault.TheVariants as atlas
 use Rattle.frz_atlas.specs.declared.fault.BackFault.{BackFault}
@@ -41,14 +37,6 @@ file_later (Truncated n due) old mid new fine h = fine_after old mid new fine h
 file_later (Extra n due) old mid new fine h = fine_after old mid new fine h
 file_later (Rules f) old mid new fine h = fine_after old mid new fine h
 file_later (Size n due) old mid new fine h = fine_after old mid new fine h
-
--- the store refused no call, and the codes were exact or not
-pub given_cause : (link : Link) (text : List ℕ) (v : Verdict) (result : Result BackTable BackFault)
-    (old new : StoreTold) → GivesBack link text v result → StoreFine old new
-    → HasOneCause result old new
-given_cause link text v (Ok given) old new gives fine = fine
-given_cause link text v (Err (one.Wrong wrong)) old new gives fine = fine
-given_cause link text v (Err (one.Refused fault)) old new gives fine = absurd gives
 
 -- the fault of one is that of all, behind those that were opened
 pub atlas_cause : (T U : Type 0) (place : ℕ) (fault : BackFault) (old mid new : StoreTold)

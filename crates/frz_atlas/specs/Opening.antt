@@ -9,8 +9,7 @@ use Rattle.frz_table.specs.Numbers.{AreBytes}
 use Rattle.frz_table.specs.Opening.{Contents, Refuses, opened, table_format}
 use Rattle.frz_table.specs.Possible.{MayHold, held_text}
 use Rattle.frz_table.specs.Tables.{Table}
-use Rattle.frz_check.specs.declared.verdict.Verdict.{Verdict}
-use Rattle.frz_check.specs.declared.verdict.Verdict.TheVariants.{Exact, Wrong as WrongCodes}
+use Rattle.frz_check.specs.declared.verdict.Verdict.TheVariants.{Exact}
 use Rattle.frz_chain.specs.Books.{Back, back_with}
 use Rattle.frz_chain.specs.declared.back.BackTable.{BackTable}
 use Rattle.frz_backs.specs.Links.{Link}
@@ -48,14 +47,6 @@ link_with table white black = record {
   leans = leans_as table.kind;
   back = back_with table.rules.groups white black;
 }
-
--- the table with this text is given if the verdict on its codes is exact, and else its first wrong
--- entry
-abbrev pub GivesBack : Link → List ℕ → Verdict → Result BackTable BackFault → Type 0
-GivesBack link text verdict (Ok given) =
-    (verdict ≡ Exact) × (link_loaded given ≡ link) × (given.table.text ≡ text)
-GivesBack link text verdict (Err (one.Wrong wrong)) = verdict ≡ WrongCodes wrong
-GivesBack link text verdict (Err (one.Refused fault)) = ⊥
 
 -- the name may hold a table that is exact over those before it, and this is that table, with its
 -- text and its rules, and whether it leans on those before it
