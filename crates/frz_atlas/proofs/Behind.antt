@@ -1,19 +1,20 @@
 -- Tables behind each other, each exact over those before it, and the first that is refused.
 use Rattle.std.proofs.Common.{◌≡◌, refl, sym, subst, ℕ, ◌+◌, List, [], ◌∷◌, ◌++◌, length, map, Option, Some, append_assoc, append-nil}
 use Rattle.frz_store.specs.Told.{StoreTold}
-use Rattle.frz_table.specs.declared.fault.TableFault.TheVariants.{Missing, Magic, Truncated, Extra, Rules, Size, Failed, NoMemory}
 use Rattle.frz_table.specs.Numbers.{AreBytes}
+use Rattle.frz_table.specs.Opening.{opened, table_format}
 use Rattle.frz_check.specs.declared.verdict.Verdict.TheVariants.{Exact}
 use Rattle.frz_chain.specs.Books.{Back}
 use Rattle.frz_chain.specs.FileOn.{back_of}
 use Rattle.frz_chain.specs.declared.back.BackTable.{BackTable}
-use Rattle.frz_atlas.specs.Behind.{AreJudgedOver, IsJudgedOver, IsRefusedAt, IsRefusedOver, TableBytes, backs_in}
+use Rattle.frz_atlas.specs.Behind.{AreJudgedOver, IsJudgedOver, IsRefusedAt, IsRefusedOver, TableBytes, backs_in, kind_held}
 use Rattle.frz_atlas.specs.Causes.{back_fault}
 use Rattle.frz_atlas.specs.Held.{all_held}
 use Rattle.frz_atlas.specs.Opening.{IsOneRefused, MayBeRefused, OpensAll, OpensOver, RefusesAll}
 use Rattle.frz_atlas.specs.declared.fault.AtlasFault.{AtlasFault}
 use Rattle.frz_atlas.specs.declared.fault.BackFault.{BackFault}
 use Rattle.frz_atlas.specs.declared.fault.BackFault.TheVariants as one
+use Rattle.frz_atlas.proofs.Causes.{by_back}
 use Rattle.frz_atlas.proofs.Several.{AllFound, AllGood, NotFound, OneFound}
 
 abbrev pub IsJudged : List Back → TableBytes → Type 0
@@ -84,21 +85,17 @@ pub refused_next : (tables : List TableBytes) (place : ℕ) (slice : List Back) 
     → length tables ≡ place → slice ≡ backs_in tables → MayBeRefused slice held fault
     → IsOneRefused (all_held tables ++ (held ∷ rest)) (back_fault place fault)
 refused_next tables place slice fault held rest good many same r =
-    subst (λ (n : ℕ). IsOneRefused (all_held tables ++ (held ∷ rest)) (back_fault n fault)) many
-    (refused_for fault (subst (λ (b : List Back). MayBeRefused b held fault) same r))
+    refused_for fault (subst (λ (b : List Back). MayBeRefused b held fault) same r)
   where
     at : (f : BackFault) → IsRefusedOver (backs_in tables) held f
-        → IsRefusedAt [] (all_held tables ++ (held ∷ rest)) (length tables) f
-    at f k = refused_behind [] tables held rest f good k
+        → IsRefusedAt [] (all_held tables ++ (held ∷ rest)) place f
+    at f k =
+        subst (λ (n : ℕ). IsRefusedAt [] (all_held tables ++ (held ∷ rest)) n f) many
+        (refused_behind [] tables held rest f good k)
 
     refused_for : (f : BackFault) → MayBeRefused (backs_in tables) held f
-        → IsOneRefused (all_held tables ++ (held ∷ rest)) (back_fault (length tables) f)
+        → IsOneRefused (all_held tables ++ (held ∷ rest)) (back_fault place f)
     refused_for (one.Wrong wrong) k = at (one.Wrong wrong) k
-    refused_for (one.Refused Missing) k = at (one.Refused Missing) k
-    refused_for (one.Refused Magic) k = at (one.Refused Magic) k
-    refused_for (one.Refused (Truncated n due)) k = at (one.Refused (Truncated n due)) k
-    refused_for (one.Refused (Extra n due)) k = at (one.Refused (Extra n due)) k
-    refused_for (one.Refused (Rules f)) k = at (one.Refused (Rules f)) k
-    refused_for (one.Refused (Size n due)) k = at (one.Refused (Size n due)) k
-    refused_for (one.Refused Failed) k = tt
-    refused_for (one.Refused NoMemory) k = tt
+    refused_for (one.Refused f) k =
+        by_back (IsOneRefused (all_held tables ++ (held ∷ rest)))
+        (opened (table_format (kind_held held)) held) tt tt place (λ f e. at (one.Refused f) e) f k

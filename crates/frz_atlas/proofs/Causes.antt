@@ -1,16 +1,43 @@
 -- The causes of the faults of several tables.
-use Rattle.std.proofs.Common.{refl, subst, ℕ, List, Result, Ok, Err}
+use Rattle.std.proofs.Common.{◌≡◌, refl, subst, ℕ, Result, Ok, Err}
 use Rattle.frz_store.specs.Outside.{Rose}
 use Rattle.frz_store.specs.Told.{StoreTold, StoreFine}
 use Rattle.frz_table.specs.declared.fault.TableFault.{TableFault}
 use Rattle.frz_table.specs.declared.fault.TableFault.TheVariants.{Missing, Magic, Truncated, Extra, Rules, Size, Failed, NoMemory}
 use Rattle.frz_table.specs.Faults.{TableCauses}
+use Rattle.frz_table.specs.Opening.{Contents, Refuses}
 use Rattle.frz_table.proofs.Lemmas.{fine_after}
-use Rattle.frz_atlas.specs.Causes.{HasAtlasCause, HasFileCause, HasOneCause, IsFileCause, back_fault}
+use Rattle.frz_atlas.specs.Causes.{HasAtlasCause, HasFileCause, HasOneCause, IsFileCause, back_fault, table_fault}
 use Rattle.frz_atlas.specs.declared.fault.AtlasFault.{AtlasFault}
 use Rattle.frz_atlas.specs.declared.fault.AtlasFault.TheVariants as atlas
 use Rattle.frz_atlas.specs.declared.fault.BackFault.{BackFault}
 use Rattle.frz_atlas.specs.declared.fault.BackFault.TheVariants as one
+
+-- what is so of a refused file, of a failure of the store and of want of memory is so of the fault
+module _ (P : AtlasFault → Type 0) (given : Result Contents TableFault) (failed : P atlas.Failed)
+    (wanted : P atlas.NoMemory) where
+  pub by_table : ((f : TableFault) → given ≡ Err f → P (atlas.Table f)) → (fault : TableFault)
+      → Refuses given fault → P (table_fault fault)
+  by_table k Missing h = k Missing h
+  by_table k Magic h = k Magic h
+  by_table k (Truncated n due) h = k (Truncated n due) h
+  by_table k (Extra n due) h = k (Extra n due) h
+  by_table k (Rules f) h = k (Rules f) h
+  by_table k (Size n due) h = k (Size n due) h
+  by_table k Failed h = failed
+  by_table k NoMemory h = wanted
+
+  pub by_back : (place : ℕ)
+      → ((f : TableFault) → given ≡ Err f → P (atlas.Back place (one.Refused f)))
+      → (fault : TableFault) → Refuses given fault → P (back_fault place (one.Refused fault))
+  by_back place k Missing h = k Missing h
+  by_back place k Magic h = k Magic h
+  by_back place k (Truncated n due) h = k (Truncated n due) h
+  by_back place k (Extra n due) h = k (Extra n due) h
+  by_back place k (Rules f) h = k (Rules f) h
+  by_back place k (Size n due) h = k (Size n due) h
+  by_back place k Failed h = failed
+  by_back place k NoMemory h = wanted
 
 -- the cause of a fault of a table's file
 pub file_cause : (T : Type 0) (result : Result T TableFault) (old new : StoreTold)

@@ -2,7 +2,6 @@
 use Rattle.std.proofs.Common.{◌≡◌, refl, ap, subst, ◌∙◌, ℕ, suc, ◌<◌, List, [], ◌∷◌, ◌++◌, length, map, Option, Some, Result, Ok, Err, arith}
 use Rattle.frz_store.specs.Told.{StoreTold}
 use Rattle.frz_table.specs.declared.fault.TableFault.{TableFault}
-use Rattle.frz_table.specs.declared.fault.TableFault.TheVariants.{Missing, Magic, Truncated, Extra, Rules, Size, Failed, NoMemory}
 use Rattle.frz_table.specs.Opening.{Contents, Refuses, contents_of}
 use Rattle.frz_chain.specs.Books.{Back}
 use Rattle.frz_chain.specs.FileOn.{back_of}
@@ -14,6 +13,7 @@ use Rattle.frz_atlas.specs.Held.{all_held}
 use Rattle.frz_atlas.specs.Loading.{IsOneUnopened, LoadsAll, LoadsOne, RefusesToLoad, in_front, opened_all, opened_before, opened_own}
 use Rattle.frz_atlas.specs.declared.fault.AtlasFault.{AtlasFault}
 use Rattle.frz_atlas.specs.declared.fault.BackFault.TheVariants.{Refused}
+use Rattle.frz_atlas.proofs.Causes.{by_back}
 use Rattle.frz_atlas.proofs.Several.{AllFound, AllGood, NotFound, OneFound}
 
 abbrev Opened : Type 0
@@ -119,21 +119,10 @@ pub refused_next : (tables : List TableBytes) (place : ℕ) (fault : TableFault)
     → length tables ≡ place → Refuses (opened_own held) fault
     → IsOneUnopened (all_held tables ++ (held ∷ rest)) (back_fault place (Refused fault))
 refused_next tables place fault held rest good many r =
-    subst (λ (n : ℕ). IsOneUnopened (all_held tables ++ (held ∷ rest))
-    (back_fault n (Refused fault))) many (refused_for fault r)
+    by_back (IsOneUnopened (all_held tables ++ (held ∷ rest))) (opened_own held) tt tt place at fault r
   where
     at : (f : TableFault) → opened_own held ≡ Err f
-        → opened_all (all_held tables ++ (held ∷ rest)) ≡ Err (length tables, f)
-    at f e = refused_last [] tables held rest f good e
-
-    refused_for : (f : TableFault) → Refuses (opened_own held) f
-        → IsOneUnopened (all_held tables ++ (held ∷ rest))
-        (back_fault (length tables) (Refused f))
-    refused_for Missing e = at Missing e
-    refused_for Magic e = at Magic e
-    refused_for (Truncated n due) e = at (Truncated n due) e
-    refused_for (Extra n due) e = at (Extra n due) e
-    refused_for (Rules f) e = at (Rules f) e
-    refused_for (Size n due) e = at (Size n due) e
-    refused_for Failed e = tt
-    refused_for NoMemory e = tt
+        → opened_all (all_held tables ++ (held ∷ rest)) ≡ Err (place, f)
+    at f e =
+        subst (λ (n : ℕ). opened_all (all_held tables ++ (held ∷ rest)) ≡ Err (n, f)) many
+        (refused_last [] tables held rest f good e)

@@ -44,11 +44,7 @@ fn verdict_by<B: ExitBook, L: Ledger>(back: &BackTable, book: &B, steps: &mut St
 }
 
 /// The verdict on a loaded table, over the tables before it where it leans on them.
-fn verdict_over<L: Ledger>(
-    back: &BackTable,
-    before: &[BackTable],
-    steps: &mut Steps<L>,
-) -> Verdict
+fn verdict_over<L: Ledger>(back: &BackTable, before: &[BackTable], steps: &mut Steps<L>) -> Verdict
     ensures verdict { IsVerdict back.now.table.rules
         (value_over (leans_as back.now.table.kind) back.now.table.rules (map loaded_back before.now))
         (λ side. of_side side back.now.white.items back.now.black.items) result }

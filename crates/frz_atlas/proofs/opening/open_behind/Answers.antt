@@ -54,7 +54,7 @@ returns-in_err-push-clause-refused g c =
     c.loop-place.invariant.quiet.unwritten.files
     (λ helds. IsOneRefused helds atlas.NoMemory) (λ helds. tt) c.in-Ok.back
     (judged_found _ _ _ _ _ _ _ _ (ap (map loaded_back) c.deref-in-loop-place.ensures.value)
-      c.in-Ok.ensures.opened)))
+    c.in-Ok.ensures.opened)))
 
 pub loop-place-preserved : goal.loop-place-preserved
 loop-place-preserved g c = record {
