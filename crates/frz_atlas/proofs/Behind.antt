@@ -1,5 +1,5 @@
 -- Tables behind each other, each exact over those before it, and the first that is refused.
-use Rattle.std.proofs.Common.{◌≡◌, refl, sym, subst, ℕ, ◌+◌, List, [], ◌∷◌, ◌++◌, length, map, Option, Some, append_assoc, append-nil}
+use Rattle.std.proofs.Common.{◌≡◌, refl, sym, subst, ℕ, List, [], ◌∷◌, ◌++◌, length, Option, append_assoc, append-nil}
 use Rattle.frz_store.specs.Told.{StoreTold}
 use Rattle.frz_table.specs.Numbers.{AreBytes}
 use Rattle.frz_table.specs.Opening.{opened, table_format}

@@ -1,4 +1,4 @@
-use Rattle.std.proofs.Common.{map, sym}
+use Rattle.std.proofs.Common.{map}
 use Rattle.frz_store.specs.Told.{store_of}
 use Rattle.frz_chain.specs.FileOn.{loaded_back}
 use Rattle.frz_atlas.proofs.TableFound.{exact_found, not_found, wrong_found}
