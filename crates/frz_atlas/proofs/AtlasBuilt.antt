@@ -29,7 +29,7 @@ use Rattle.frz_atlas.specs.Held.{all_held}
 use Rattle.frz_atlas.specs.Opening.{IsOneRefused, OpensAll, RefusesAll}
 use Rattle.frz_atlas.specs.declared.fault.AtlasFault.{AtlasFault}
 use Rattle.frz_atlas.specs.declared.fault.AtlasFault.TheVariants as atlas
-use Rattle.frz_atlas.proofs.Behind.{may_hold_some, some_helds}
+use Rattle.frz_atlas.proofs.Several.{may_hold_some, some_helds}
 use Rattle.frz_atlas.proofs.ExactTables.{kept_backs}
 use Rattle.frz_atlas.proofs.StillHeld.{all_still_held}
 

@@ -6,7 +6,6 @@ use Rattle.frz_sets.specs.Sets.{size_of}
 use Rattle.frz_store.specs.Files.{Files}
 use Rattle.frz_store.specs.Told.{StoreTold}
 use Rattle.frz_table.specs.declared.fault.TableFault.{TableFault}
-use Rattle.frz_table.specs.declared.fault.TableFault.TheVariants.{Missing, Magic, Truncated, Extra, Rules, Size, Failed, NoMemory}
 use Rattle.frz_table.specs.declared.kind.FileKind.{FileKind}
 use Rattle.frz_table.specs.declared.kind.FileKind.TheVariants.{Atlas}
 use Rattle.frz_table.specs.Faults.{IsOutside}
@@ -14,7 +13,7 @@ use Rattle.frz_table.specs.Layout.{pieces_of}
 use Rattle.frz_table.specs.Opening.{Contents, Refuses, contents_of, kept_text, opened, opening_calls, table_format}
 use Rattle.frz_table.specs.Possible.{MayOpen, MayRefuse}
 use Rattle.frz_table.specs.Tables.{Table, table_size}
-use Rattle.frz_table.proofs.Lemmas.{belongs, opened_calls, text_kept}
+use Rattle.frz_table.proofs.Lemmas.{belongs, opened_calls, outside_refuses, text_kept}
 use Rattle.frz_check.specs.Kept.{ChecksTable, IsVerdictOn, opened_size}
 use Rattle.frz_check.proofs.Lemmas.{file_opens}
 use Rattle.frz_backs.specs.Books.{Back}
@@ -31,21 +30,16 @@ use Rattle.frz_atlas.specs.Opening.{IsOneRefused, OpensAll, RefusesAll}
 use Rattle.frz_atlas.specs.declared.checking.Checked.{Checked}
 use Rattle.frz_atlas.specs.declared.fault.AtlasFault.{AtlasFault}
 use Rattle.frz_atlas.specs.declared.fault.AtlasFault.TheVariants as atlas
-use Rattle.frz_atlas.proofs.Behind.{may_hold_some, some_helds}
+use Rattle.frz_atlas.proofs.Causes.{by_table}
+use Rattle.frz_atlas.proofs.Several.{may_hold_some, some_helds}
 use Rattle.frz_atlas.proofs.ExactTables.{kept_backs}
 
 -- a file that is refused is refused as a table
 file_refused : (held : Option (List ℕ)) (behind : List (Option (List ℕ))) (fault : TableFault)
     → Refuses (opened (table_format Atlas) held) fault
     → IsRefusedAtlas held behind (table_fault fault)
-file_refused held behind Missing h = h
-file_refused held behind Magic h = h
-file_refused held behind (Truncated length due) h = h
-file_refused held behind (Extra length due) h = h
-file_refused held behind (Rules fault) h = h
-file_refused held behind (Size kept due) h = h
-file_refused held behind Failed h = tt
-file_refused held behind NoMemory h = tt
+file_refused held behind =
+    by_table (IsRefusedAtlas held behind) (opened (table_format Atlas) held) tt tt (λ f e. e)
 
 -- the table was not opened
 pub not_opened : (table : List ℕ) (behind : List (List ℕ)) (old new : StoreTold) (steps : ℕ)
@@ -115,18 +109,6 @@ behind_refused bytes contents helds atlas.NoMemory opens h = tt
 behind_refused bytes contents helds (atlas.Rules fault) opens h = absurd h
 behind_refused bytes contents helds (atlas.Table fault) opens h = absurd h
 
--- all were opened, and the codes of the table were not loaded
-pub outside_refused : (held : Option (List ℕ)) (behind : List (Option (List ℕ))) (fault : TableFault)
-    → IsOutside fault → IsRefusedAtlas held behind (table_fault fault)
-outside_refused held behind Failed h = tt
-outside_refused held behind NoMemory h = tt
-outside_refused held behind Missing h = absurd h
-outside_refused held behind Magic h = absurd h
-outside_refused held behind (Truncated length due) h = absurd h
-outside_refused held behind (Extra length due) h = absurd h
-outside_refused held behind (Rules fault) h = absurd h
-outside_refused held behind (Size kept due) h = absurd h
-
 -- the sizes of the loaded tables are those of the tables in their files
 sizes_behind : (sizes : List ℕ) (links : List Link) (tables : List TableBytes)
     → sizes ≡ map (λ back. size_of back.groups) (backs_of links) → links ≡ map link_of tables
@@ -182,7 +164,8 @@ module _ (table : Table) (name : List ℕ) (behind : List (List ℕ)) (old mid :
       may = opens.may;
       helds = all_held h.tables;
       may_all = held_before;
-      refuses = outside_refused (Some opens.bytes) (all_held h.tables) fault outside;
+      refuses = file_refused (Some opens.bytes) (all_held h.tables) fault
+          (outside_refuses (opened (table_format Atlas) (Some opens.bytes)) fault outside);
       within = within_opened opens.bytes opens.opens;
     }
 

@@ -6,7 +6,6 @@ use Rattle.frz_sets.specs.Sets.{size_of}
 use Rattle.frz_store.specs.Files.{Files}
 use Rattle.frz_store.specs.Told.{StoreTold}
 use Rattle.frz_table.specs.declared.fault.TableFault.{TableFault}
-use Rattle.frz_table.specs.declared.fault.TableFault.TheVariants.{Missing, Magic, Truncated, Extra, Rules, Size, Failed, NoMemory}
 use Rattle.frz_table.specs.declared.kind.FileKind.TheVariants.{Atlas}
 use Rattle.frz_table.specs.Faults.{IsOutside}
 use Rattle.frz_table.specs.Layout.{pieces_of}
@@ -28,20 +27,15 @@ use Rattle.frz_atlas.specs.declared.fault.AtlasFault.TheVariants as atlas
 use Rattle.frz_atlas.specs.declared.fault.BackFault.TheVariants.{Refused, Wrong}
 use Rattle.frz_atlas.specs.declared.reading.LoadedAtlas.{LoadedAtlas}
 use Rattle.frz_atlas.proofs.AtlasChecked as checks
-use Rattle.frz_atlas.proofs.Behind.{may_hold_some, some_helds}
+use Rattle.frz_atlas.proofs.Causes.{by_table}
+use Rattle.frz_atlas.proofs.Several.{may_hold_some, some_helds}
 
 -- a refusal of the table's own file is one
 pub own_refused : (opened_as : Option (List ℕ) → Result Contents TableFault) (held : Option (List ℕ))
     (behind : List (Option (List ℕ))) (fault : TableFault) → Refuses (opened_as held) fault
     → IsUnopened opened_as held behind (table_fault fault)
-own_refused opened_as held behind Missing h = h
-own_refused opened_as held behind Magic h = h
-own_refused opened_as held behind (Truncated length due) h = h
-own_refused opened_as held behind (Extra length due) h = h
-own_refused opened_as held behind (Rules fault) h = h
-own_refused opened_as held behind (Size kept due) h = h
-own_refused opened_as held behind Failed h = tt
-own_refused opened_as held behind NoMemory h = tt
+own_refused opened_as held behind =
+    by_table (IsUnopened opened_as held behind) (opened_as held) tt tt (λ f e. e)
 
 -- the table was not opened
 pub not_opened : (table : List ℕ) (behind : List (List ℕ)) (old new : StoreTold)

@@ -1,22 +1,43 @@
 -- The causes of the faults of several tables.
-use Rattle.std.proofs.Common.{refl, subst, ℕ, List, Result, Ok, Err}
-use Rattle.frz_store.specs.Outside.{Rose, StoreCauses}
+use Rattle.std.proofs.Common.{◌≡◌, refl, subst, ℕ, Result, Ok, Err}
+use Rattle.frz_store.specs.Outside.{Rose}
 use Rattle.frz_store.specs.Told.{StoreTold, StoreFine}
-use Rattle.frz_store.specs.declared.outside.StoreFault.{StoreFault}
-use Rattle.frz_store.specs.declared.outside.StoreFault.TheVariants as store
 use Rattle.frz_table.specs.declared.fault.TableFault.{TableFault}
 use Rattle.frz_table.specs.declared.fault.TableFault.TheVariants.{Missing, Magic, Truncated, Extra, Rules, Size, Failed, NoMemory}
-use Rattle.frz_table.specs.Faults.{TableCauses, fault_of}
+use Rattle.frz_table.specs.Faults.{TableCauses}
+use Rattle.frz_table.specs.Opening.{Contents, Refuses}
 use Rattle.frz_table.proofs.Lemmas.{fine_after}
-use Rattle.frz_check.specs.declared.verdict.Verdict.{Verdict}
-use Rattle.frz_backs.specs.BackTable.{BackTable}
-use Rattle.frz_backs.specs.Links.{Link}
-use Rattle.frz_atlas.specs.Causes.{HasAtlasCause, HasFileCause, HasOneCause, back_fault}
-use Rattle.frz_atlas.specs.Opening.{GivesBack}
+use Rattle.frz_atlas.specs.Causes.{HasAtlasCause, HasFileCause, HasOneCause, IsFileCause, back_fault, table_fault}
 use Rattle.frz_atlas.specs.declared.fault.AtlasFault.{AtlasFault}
 use Rattle.frz_atlas.specs.declared.fault.AtlasFault.TheVariants as atlas
 use Rattle.frz_atlas.specs.declared.fault.BackFault.{BackFault}
 use Rattle.frz_atlas.specs.declared.fault.BackFault.TheVariants as one
+
+-- what is so of a refused file, of a failure of the store and of want of memory is so of the fault
+module _ (P : AtlasFault → Type 0) (given : Result Contents TableFault) (failed : P atlas.Failed)
+    (wanted : P atlas.NoMemory) where
+  pub by_table : ((f : TableFault) → given ≡ Err f → P (atlas.Table f)) → (fault : TableFault)
+      → Refuses given fault → P (table_fault fault)
+  by_table k Missing h = k Missing h
+  by_table k Magic h = k Magic h
+  by_table k (Truncated n due) h = k (Truncated n due) h
+  by_table k (Extra n due) h = k (Extra n due) h
+  by_table k (Rules f) h = k (Rules f) h
+  by_table k (Size n due) h = k (Size n due) h
+  by_table k Failed h = failed
+  by_table k NoMemory h = wanted
+
+  pub by_back : (place : ℕ)
+      → ((f : TableFault) → given ≡ Err f → P (atlas.Back place (one.Refused f)))
+      → (fault : TableFault) → Refuses given fault → P (back_fault place (one.Refused fault))
+  by_back place k Missing h = k Missing h
+  by_back place k Magic h = k Magic h
+  by_back place k (Truncated n due) h = k (Truncated n due) h
+  by_back place k (Extra n due) h = k (Extra n due) h
+  by_back place k (Rules f) h = k (Rules f) h
+  by_back place k (Size n due) h = k (Size n due) h
+  by_back place k Failed h = failed
+  by_back place k NoMemory h = wanted
 
 -- the cause of a fault of a table's file
 pub file_cause : (T : Type 0) (result : Result T TableFault) (old new : StoreTold)
@@ -32,67 +53,36 @@ file_cause T (Err (Extra n due)) old new h = record { faults = h.refused; wants 
 file_cause T (Err (Rules f)) old new h = record { faults = h.refused; wants = h.wants_refused }
 file_cause T (Err (Size n due)) old new h = record { faults = h.refused; wants = h.wants_refused }
 
-pub store_cause : (T U : Type 0) (fault : StoreFault) (old new : StoreTold)
-    → StoreCauses {T = T} old.faults new.faults old.wants new.wants (Err fault)
-    → HasFileCause {T = U} (Err (fault_of fault)) old new
-store_cause T U store.Failed old new h = h.failed refl
-store_cause T U store.NoMemory old new h = tt
-
 -- calls before that succeeded change no cause
-pub file_later : (T : Type 0) (result : Result T TableFault) (old mid new : StoreTold)
-    → StoreFine old mid → HasFileCause result mid new → HasFileCause result old new
-file_later T (Ok x) old mid new fine h = fine_after old mid new fine h
-file_later T (Err Failed) old mid new fine h = subst (λ (n : ℕ). Rose n new.faults) fine.faults h
-file_later T (Err NoMemory) old mid new fine h = tt
-file_later T (Err Missing) old mid new fine h = fine_after old mid new fine h
-file_later T (Err Magic) old mid new fine h = fine_after old mid new fine h
-file_later T (Err (Truncated n due)) old mid new fine h = fine_after old mid new fine h
-file_later T (Err (Extra n due)) old mid new fine h = fine_after old mid new fine h
-file_later T (Err (Rules f)) old mid new fine h = fine_after old mid new fine h
-file_later T (Err (Size n due)) old mid new fine h = fine_after old mid new fine h
-
--- a table's fault is one of those behind
-pub one_cause : (T U : Type 0) (fault : TableFault) (old new : StoreTold)
-    → HasFileCause {T = T} (Err fault) old new
-    → HasOneCause {T = U} (Err (one.Refused fault)) old new
-one_cause T U Failed old new h = h
-one_cause T U NoMemory old new h = tt
-one_cause T U Missing old new h = h
-one_cause T U Magic old new h = h
-one_cause T U (Truncated n due) old new h = h
-one_cause T U (Extra n due) old new h = h
-one_cause T U (Rules f) old new h = h
-one_cause T U (Size n due) old new h = h
-
-pub one_later : (T U : Type 0) (fault : TableFault) (old mid new : StoreTold) → StoreFine old mid
-    → HasFileCause {T = T} (Err fault) mid new
-    → HasOneCause {T = U} (Err (one.Refused fault)) old new
-one_later T U fault old mid new fine h =
-    one_cause T U fault old new (file_later T (Err fault) old mid new fine h)
-
--- the store refused no call, and the codes were exact or not
-pub given_cause : (link : Link) (text : List ℕ) (v : Verdict) (result : Result BackTable BackFault)
-    (old new : StoreTold) → GivesBack link text v result → StoreFine old new
-    → HasOneCause result old new
-given_cause link text v (Ok given) old new gives fine = fine
-given_cause link text v (Err (one.Wrong wrong)) old new gives fine = fine
-given_cause link text v (Err (one.Refused fault)) old new gives fine = absurd gives
+pub file_later : (fault : TableFault) (old mid new : StoreTold) → StoreFine old mid
+    → IsFileCause fault mid new → IsFileCause fault old new
+file_later Failed old mid new fine h = subst (λ (n : ℕ). Rose n new.faults) fine.faults h
+file_later NoMemory old mid new fine h = tt
+file_later Missing old mid new fine h = fine_after old mid new fine h
+file_later Magic old mid new fine h = fine_after old mid new fine h
+file_later (Truncated n due) old mid new fine h = fine_after old mid new fine h
+file_later (Extra n due) old mid new fine h = fine_after old mid new fine h
+file_later (Rules f) old mid new fine h = fine_after old mid new fine h
+file_later (Size n due) old mid new fine h = fine_after old mid new fine h
 
 -- the fault of one is that of all, behind those that were opened
 pub atlas_cause : (T U : Type 0) (place : ℕ) (fault : BackFault) (old mid new : StoreTold)
     → StoreFine old mid → HasOneCause {T = T} (Err fault) mid new
     → HasAtlasCause {T = U} (Err (back_fault place fault)) old new
 atlas_cause T U place (one.Wrong wrong) old mid new fine h = fine_after old mid new fine h
-atlas_cause T U place (one.Refused Failed) old mid new fine h =
-    subst (λ (n : ℕ). Rose n new.faults) fine.faults h
-atlas_cause T U place (one.Refused NoMemory) old mid new fine h = tt
-atlas_cause T U place (one.Refused Missing) old mid new fine h = fine_after old mid new fine h
-atlas_cause T U place (one.Refused Magic) old mid new fine h = fine_after old mid new fine h
-atlas_cause T U place (one.Refused (Truncated n due)) old mid new fine h =
-    fine_after old mid new fine h
-atlas_cause T U place (one.Refused (Extra n due)) old mid new fine h = fine_after old mid new fine h
-atlas_cause T U place (one.Refused (Rules f)) old mid new fine h = fine_after old mid new fine h
-atlas_cause T U place (one.Refused (Size n due)) old mid new fine h = fine_after old mid new fine h
+atlas_cause T U place (one.Refused fault) old mid new fine h =
+    at fault (file_later fault old mid new fine h)
+  where
+    at : (f : TableFault) → IsFileCause f old new
+        → HasAtlasCause {T = U} (Err (back_fault place (one.Refused f))) old new
+    at Failed k = k
+    at NoMemory k = tt
+    at Missing k = k
+    at Magic k = k
+    at (Truncated n due) k = k
+    at (Extra n due) k = k
+    at (Rules f) k = k
+    at (Size n due) k = k
 
 pub atlas_later : (T : Type 0) (result : Result T AtlasFault) (old mid new : StoreTold)
     → StoreFine old mid

@@ -3,9 +3,9 @@ mod OwnKinds
 mod Causes
 mod VerdictsByValues
 mod TableFound
-mod Behind
-mod Names
 mod ExactTables
+mod Several
+mod Behind
 mod StillHeld
 mod AtlasBuilt
 mod AtlasChecked

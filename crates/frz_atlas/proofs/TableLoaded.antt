@@ -1,23 +1,27 @@
 -- One table that was opened as its own kind and loaded, and one that was not.
-use Rattle.std.proofs.Common.{◌≡◌, sym, ℕ, ◌+◌, ◌*◌, ◌≤◌, List, length, Bool, Some, Ok, IfSome, arith}
+use Rattle.std.proofs.Common.{◌≡◌, ap, sym, ◌∙◌, ℕ, ◌+◌, ◌*◌, ◌≤◌, List, length, Bool, Some, Ok, IfSome, arith}
+use Rattle.frz_board.specs.declared.man.Colour.TheVariants.{White, Black}
 use Rattle.frz_rules.specs.Text.{rules_of}
 use Rattle.frz_sets.specs.Sets.{size_of}
 use Rattle.frz_store.specs.Bytes.{HoldsBytes}
 use Rattle.frz_store.specs.Told.{StoreTold}
 use Rattle.frz_table.specs.declared.fault.TableFault.{TableFault}
 use Rattle.frz_table.specs.Faults.{IsOutside}
-use Rattle.frz_table.specs.Layout.{pieces_of}
-use Rattle.frz_table.specs.Opening.{Contents, contents_of, table_format}
+use Rattle.frz_table.specs.Layout.{kind_by, pieces_of}
+use Rattle.frz_table.specs.Opening.{Contents, contents_of, kept_text, table_format}
 use Rattle.frz_table.specs.Possible.{MayKeep}
 use Rattle.frz_table.specs.Tables.{Table, table_size}
-use Rattle.frz_table.proofs.Lemmas.{belongs, held_bytes, outside_refuses}
+use Rattle.frz_table.proofs.Lemmas.{belongs, held_bytes, outside_refuses, text_kept}
+use Rattle.frz_check.specs.Kept.{kept_codes, opened_size}
 use Rattle.frz_check.proofs.Lemmas.{file_opens}
+use Rattle.frz_backs.specs.FileOn.{back_of}
 use Rattle.frz_backs.specs.BackTable.{BackTable}
+use Rattle.frz_backs.specs.Links.{Link}
 use Rattle.frz_backs.specs.Loaded.{leans_as}
-use Rattle.frz_atlas.specs.Behind.{kind_by, kind_of}
+use Rattle.frz_atlas.specs.Behind.{kind_of, leans, link_of}
+use Rattle.frz_atlas.specs.Costs.{size_held}
 use Rattle.frz_atlas.specs.Loading.{LoadsOne, RefusesOne, WithinLoadingOne, opened_own}
-use Rattle.frz_atlas.specs.Opening.{IsOwnKind, MayOpenOwn, MayRefuseOwn}
-use Rattle.frz_atlas.proofs.TableFound.{link_kept, within_one}
+use Rattle.frz_atlas.specs.Opening.{IsOwnKind, MayOpenOwn, MayRefuseOwn, link_with}
 use Rattle.frz_atlas.proofs.OwnKinds.{leans_by, opens_own}
 
 pub not_opened : (name : List ℕ) (old new : StoreTold) (fault : TableFault)
@@ -37,8 +41,30 @@ within_loading : (bytes : List ℕ) (contents : Contents) (old mid new : StoreTo
     → new.calls ≤ mid.calls + 2 * pieces_of (size_of contents.rules.groups)
     → WithinLoadingOne (Some bytes) old new
 within_loading bytes contents old mid new opens asked calls more_asked more_calls =
-    let within = within_one bytes contents old mid new 0 0 opens asked calls more_asked more_calls
-    (omega arith) in record { asked = within.asked; calls = within.calls }
+    let size : ℕ = size_of contents.rules.groups in
+    let is : size_held (Some bytes) ≡ size = ap opened_size opens in
+    let file = belongs (table_format (kind_of bytes)) bytes contents opens in
+    let text : length (kept_text bytes) ≡ length contents.text = ap (length {A = ℕ})
+    (text_kept _ contents.text size bytes file.file) in
+    let pieces : pieces_of (size_held (Some bytes)) ≡ pieces_of size = ap pieces_of is in
+    record {
+      asked = omega (arith, is, text, asked, more_asked);
+      calls = omega (arith, pieces, calls, more_calls);
+    }
+
+-- the table in a file that keeps these codes is the one with them
+abbrev leaning_in : Contents → List ℕ → Bool → Link
+leaning_in contents bytes b =
+    record { rules = contents.rules; leans = b; back = back_of contents bytes }
+
+link_kept : (table : Table) (white black bytes : List ℕ) → leans bytes ≡ leans_as table.kind
+    → white ≡ kept_codes (contents_of table) bytes White
+    → black ≡ kept_codes (contents_of table) bytes Black
+    → link_with table white black ≡ link_of (record { bytes = bytes; contents = contents_of table })
+link_kept table white black bytes leaning white_is black_is =
+    ap (λ (l : List ℕ). link_with table l black) white_is
+    ∙ ap (λ (l : List ℕ). link_with table (kept_codes (contents_of table) bytes White) l) black_is
+    ∙ ap (leaning_in (contents_of table) bytes) (sym leaning)
 
 -- it was opened, and the lists of its codes were not loaded
 pub not_loaded : (table : Table) (name : List ℕ) (old mid new : StoreTold) (fault : TableFault)

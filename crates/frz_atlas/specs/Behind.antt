@@ -1,10 +1,10 @@
 -- Files of tables that stand behind another, from the left: each may lean on those before it.
-use Rattle.std.specs.Prelude.{◌≡◌, ℕ, zero, suc, List, [], ◌∷◌, ◌++◌, map, take, Bool, true, false, Option, None, Some, Ok, Err, ⊤}
+use Rattle.std.specs.Prelude.{◌≡◌, ℕ, zero, suc, List, [], ◌∷◌, ◌++◌, map, take, Bool, Option, None, Some, Ok, Err, ⊤}
 use Rattle.std.specs.Str.{bytes_eq}
 use Rattle.frz_check.specs.Wrong.{Wrong as WrongEntry}
 use Rattle.frz_table.specs.declared.kind.FileKind.{FileKind}
 use Rattle.frz_table.specs.declared.kind.FileKind.TheVariants.{Plain, Atlas}
-use Rattle.frz_table.specs.Layout.{magic_of}
+use Rattle.frz_table.specs.Layout.{kind_by, magic_of}
 use Rattle.frz_table.specs.Numbers.{AreBytes}
 use Rattle.frz_table.specs.Opening.{Contents, opened, table_format}
 use Rattle.frz_check.specs.declared.verdict.Verdict.{Verdict}
@@ -21,11 +21,7 @@ use Rattle.frz_atlas.specs.declared.fault.BackFault.TheVariants.{Refused, Wrong}
 abbrev pub leans : List ℕ → Bool
 leans bytes = bytes_eq (take 8 bytes) (magic_of Atlas)
 
--- the kind as which bytes are opened: Atlas where they begin as a table that leans, and else Plain
-abbrev pub kind_by : Bool → FileKind
-kind_by true = Atlas
-kind_by false = Plain
-
+-- the kind as which bytes are opened
 abbrev pub kind_of : List ℕ → FileKind
 kind_of bytes = kind_by (leans bytes)
 

@@ -1,6 +1,6 @@
 -- The faults of tables over several others that come from the store, from memory, from a file or
 -- from the reader of rules.
-use Rattle.std.specs.Prelude.{ℕ, Result, Err, ⊤}
+use Rattle.std.specs.Prelude.{ℕ, Result, Ok, Err, ⊤}
 use Rattle.frz_rules.specs.declared.fault.RulesError.{RulesError}
 use Rattle.frz_rules.specs.declared.fault.RulesError.TheVariants as reading
 use Rattle.frz_store.specs.Outside.{Rose}
@@ -36,14 +36,17 @@ back_fault place fault = Back place fault
 
 -- after a failure of the store, its count of faults is higher. Nothing is said where memory ran
 -- out. With any other answer no call of the store was refused
+abbrev pub IsFileCause : TableFault → StoreTold → StoreTold → Type 0
+IsFileCause table.Failed old new = Rose old.faults new.faults
+IsFileCause table.NoMemory old new = ⊤
+IsFileCause fault old new = StoreFine old new
+
 abbrev pub HasFileCause : {T : Type 0} → Result T TableFault → StoreTold → StoreTold → Type 0
-HasFileCause (Err table.Failed) old new = Rose old.faults new.faults
-HasFileCause (Err table.NoMemory) old new = ⊤
-HasFileCause result old new = StoreFine old new
+HasFileCause (Err fault) old new = IsFileCause fault old new
+HasFileCause (Ok x) old new = StoreFine old new
 
 abbrev pub HasOneCause : {T : Type 0} → Result T BackFault → StoreTold → StoreTold → Type 0
-HasOneCause (Err (one.Refused table.Failed)) old new = Rose old.faults new.faults
-HasOneCause (Err (one.Refused table.NoMemory)) old new = ⊤
+HasOneCause (Err (one.Refused fault)) old new = IsFileCause fault old new
 HasOneCause result old new = StoreFine old new
 
 abbrev pub HasAtlasCause : {T : Type 0} → Result T AtlasFault → StoreTold → StoreTold → Type 0

@@ -1,21 +1,20 @@
 -- What is found under the names of tables that stand behind another.
-use Rattle.std.specs.Prelude.{◌≡◌, ◌≤◌, ◌+◌, ℕ, List, [], length, map, Option, Some, Result, Ok, Err, ⊤}
+use Rattle.std.specs.Prelude.{◌≡◌, ◌≤◌, ◌+◌, ℕ, List, [], length, map, Option, Some, Ok, ⊤}
 use Rattle.frz_store.specs.Files.{Files}
 use Rattle.frz_store.specs.Told.{StoreTold}
 use Rattle.frz_table.specs.declared.fault.TableFault.{TableFault}
-use Rattle.frz_table.specs.declared.fault.TableFault.TheVariants.{Failed, NoMemory}
 use Rattle.frz_table.specs.declared.kind.FileKind.{FileKind}
+use Rattle.frz_table.specs.Layout.{kind_by}
 use Rattle.frz_table.specs.Numbers.{AreBytes}
 use Rattle.frz_table.specs.Opening.{Contents, Refuses, opened, table_format}
 use Rattle.frz_table.specs.Possible.{MayHold, held_text}
 use Rattle.frz_table.specs.Tables.{Table}
-use Rattle.frz_check.specs.declared.verdict.Verdict.{Verdict}
-use Rattle.frz_check.specs.declared.verdict.Verdict.TheVariants.{Exact, Wrong as WrongCodes}
+use Rattle.frz_check.specs.declared.verdict.Verdict.TheVariants.{Exact}
 use Rattle.frz_backs.specs.Books.{Back, back_with}
 use Rattle.frz_backs.specs.BackTable.{BackTable}
 use Rattle.frz_backs.specs.Links.{Link}
 use Rattle.frz_backs.specs.Loaded.{leans_as, link_loaded}
-use Rattle.frz_atlas.specs.Behind.{AreJudged, IsJudgedOver, IsRefusedAt, IsRefusedOver, TableBytes, kind_by, kind_held, kind_of, link_of}
+use Rattle.frz_atlas.specs.Behind.{AreJudged, HasWrongOver, IsJudgedOver, IsRefusedAt, TableBytes, kind_held, kind_of, link_of}
 use Rattle.frz_atlas.specs.Costs.{WithinAll, WithinOne}
 use Rattle.frz_atlas.specs.Held.{MayHoldAll, all_held}
 use Rattle.frz_atlas.specs.declared.fault.AtlasFault.{AtlasFault}
@@ -49,14 +48,6 @@ link_with table white black = record {
   back = back_with table.rules.groups white black;
 }
 
--- the table with this text is given if the verdict on its codes is exact, and else its first wrong
--- entry
-abbrev pub GivesBack : Link → List ℕ → Verdict → Result BackTable BackFault → Type 0
-GivesBack link text verdict (Ok given) =
-    (verdict ≡ Exact) × (link_loaded given ≡ link) × (given.table.text ≡ text)
-GivesBack link text verdict (Err (one.Wrong wrong)) = verdict ≡ WrongCodes wrong
-GivesBack link text verdict (Err (one.Refused fault)) = ⊥
-
 -- the name may hold a table that is exact over those before it, and this is that table, with its
 -- text and its rules, and whether it leans on those before it
 pub record OpensOver (before : List Back) (name : List ℕ) (given : BackTable) (old new : StoreTold)
@@ -72,9 +63,9 @@ pub record OpensOver (before : List Back) (name : List ℕ) (given : BackTable) 
 -- what the name holds is refused for this reason; nothing is said where the store failed or memory
 -- ran out
 abbrev pub MayBeRefused : List Back → Option (List ℕ) → BackFault → Type 0
-MayBeRefused before held (one.Refused Failed) = ⊤
-MayBeRefused before held (one.Refused NoMemory) = ⊤
-MayBeRefused before held fault = IsRefusedOver before held fault
+MayBeRefused before held (one.Refused fault) =
+    Refuses (opened (table_format (kind_held held)) held) fault
+MayBeRefused before held (one.Wrong wrong) = HasWrongOver before held wrong
 
 pub record RefusesOver (before : List Back) (name : List ℕ) (old new : StoreTold)
     (steps_before steps_now : ℕ) (fault : BackFault) : Type 0 where

@@ -1,77 +1,57 @@
 //! Opens, loads and checks the tables behind another from the left, each over those before it.
-ghost use Rattle.std.specs.Prelude.{◌≡◌, ◌≤◌, ◌+◌, ◌*◌, length, map, IfOk, IfErr};
+ghost use Rattle.std.specs.Prelude.{◌≤◌, ◌+◌, map, IfOk, IfErr};
 ghost use Rattle.std.specs.String.{string_bytes};
 ghost use Rattle.frz_check.specs.EntryCodes.{of_side};
 ghost use Rattle.frz_store.specs.Told.{store_of, StoreQuiet};
-ghost use Rattle.frz_table.specs.Faults.{IsOutside};
-ghost use Rattle.frz_table.specs.Layout.{pieces_of};
-ghost use Rattle.frz_table.specs.Possible.{MayKeep};
-ghost use Rattle.frz_table.specs.Tables.{Carries, table_size};
+ghost use Rattle.frz_table.specs.Tables.{table_size};
 ghost use Rattle.frz_check.specs.Verdicts.{IsVerdict};
 ghost use Rattle.frz_backs.specs.FileOn.{loaded_back};
 ghost use Rattle.frz_backs.specs.Links.{value_over};
 ghost use Rattle.frz_backs.specs.Loaded.{leans_as};
-ghost use Rattle.frz_atlas.specs.Causes.{HasAtlasCause, HasFileCause, HasOneCause};
-ghost use Rattle.frz_atlas.specs.Opening.{GivesBack, OpensAll, OpensOver, RefusesAll, RefusesOver, link_with};
+ghost use Rattle.frz_atlas.specs.Causes.{HasAtlasCause, HasOneCause};
+ghost use Rattle.frz_atlas.specs.Opening.{OpensAll, OpensOver, RefusesAll, RefusesOver};
 
-use crate::kinds::open_own;
+use crate::loading::load_own;
 use crate::{AtlasFault, BackFault};
 use frz_backs::{AtlasBook, BackTable};
-use frz_check::{CheckedCodes, RuleBook, Verdict, load_checked};
+use frz_check::{ExitBook, Game, Pair, RuleBook, Verdict, check_entries};
 use frz_steps::Steps;
 use frz_store::Store;
-use frz_table::{FileKind, TableFault, TableFile};
+use frz_table::FileKind;
 use std::alloc::Global;
 use std::sync::ledger::Ledger;
 
-/// Loads the codes of an open table and checks them, over the tables before it where it leans on
-/// them.
-fn load_over<S: Store, L: Ledger>(
-    alloc: Global,
-    table: &TableFile,
-    before: &[BackTable],
-    store: &mut S,
-    steps: &mut Steps<L>,
-) -> Result<CheckedCodes, TableFault>
-    requires { Carries (S.files store.old) table.now }
-    ensures kept { IfOk result
-        (λ l. MayKeep (S.files store.old) table.now l.white.items l.black.items) }
-    ensures verdict { IfOk result (λ l. IsVerdict table.now.rules
-        (value_over (leans_as table.now.kind) table.now.rules (map loaded_back before.now))
-        (λ side. of_side side l.white.items l.black.items) l.verdict) }
-    ensures white_many { IfOk result (λ l. length l.white.items ≡ table_size table.now) }
-    ensures black_many { IfOk result (λ l. length l.black.items ≡ table_size table.now) }
-    ensures outside { IfErr result IsOutside }
-    ensures quiet { StoreQuiet (store_of S.Store store.old) (store_of S.Store store.new) }
-    ensures asked { S.asked store.new ≤ S.asked store.old + 8 * table_size table.now }
-    ensures calls { S.calls store.new ≤ S.calls store.old + 2 * pieces_of (table_size table.now) }
-    ensures steps { steps.new ≤ steps.old + table_size table.now }
+/// The verdict on the codes of a loaded table, with exits valued by the book.
+fn verdict_by<B: ExitBook, L: Ledger>(back: &BackTable, book: &B, steps: &mut Steps<L>) -> Verdict
+    ensures verdict { IsVerdict back.now.table.rules (B.value_at book.now)
+        (λ side. of_side side back.now.white.items back.now.black.items) result }
+    ensures steps { steps.new ≤ steps.old + table_size back.now.table }
     ensures later { steps.old ≤ steps.new }
-    ensures cause { HasFileCause result (store_of S.Store store.old) (store_of S.Store store.new) }
 {
-    match table.kind() {
-        FileKind::Atlas => {
-            let book = AtlasBook::new(table.rules(), before);
-            load_checked(alloc, table, store, &book, steps)
-        }
-        _ => load_checked(alloc, table, store, &RuleBook::new(table.rules()), steps),
-    }
+    let game = Game {
+        set: back.table.set(),
+        rules: back.table.rules(),
+        book,
+    };
+    let entries = Pair {
+        white: back.white.as_slice(),
+        black: back.black.as_slice(),
+    };
+    check_entries(&game, &entries, steps)
 }
 
-/// The table with its codes if these are exact, or its first wrong entry.
-fn exact_back(table: TableFile, loaded: CheckedCodes) -> Result<BackTable, BackFault>
-    requires white { length loaded.white.items ≡ table_size table }
-    requires black { length loaded.black.items ≡ table_size table }
-    ensures { GivesBack (link_with table loaded.white.items loaded.black.items) table.text
-        loaded.verdict result }
+/// The verdict on a loaded table, over the tables before it where it leans on them.
+fn verdict_over<L: Ledger>(back: &BackTable, before: &[BackTable], steps: &mut Steps<L>) -> Verdict
+    ensures verdict { IsVerdict back.now.table.rules
+        (value_over (leans_as back.now.table.kind) back.now.table.rules (map loaded_back before.now))
+        (λ side. of_side side back.now.white.items back.now.black.items) result }
+    ensures steps { steps.new ≤ steps.old + table_size back.now.table }
+    ensures later { steps.old ≤ steps.new }
 {
-    match loaded.verdict {
-        Verdict::Exact => Ok(BackTable {
-            table,
-            white: loaded.white,
-            black: loaded.black,
-        }),
-        Verdict::Wrong(wrong) => Err(BackFault::Wrong(wrong)),
+    let table = &back.table;
+    match table.kind() {
+        FileKind::Atlas => verdict_by(back, &AtlasBook::new(table.rules(), before), steps),
+        _ => verdict_by(back, &RuleBook::new(table.rules()), steps),
     }
 }
 
@@ -92,13 +72,13 @@ pub fn open_over<S: Store, L: Ledger>(
     ensures later { steps.old ≤ steps.new }
     ensures cause { HasOneCause result (store_of S.Store store.old) (store_of S.Store store.new) }
 {
-    let table = match open_own(alloc, store, name) {
-        Ok(table) => table,
+    let back = match load_own(alloc, store, name) {
+        Ok(back) => back,
         Err(fault) => return Err(BackFault::Refused(fault)),
     };
-    match load_over(alloc, &table, before, store, steps) {
-        Ok(loaded) => exact_back(table, loaded),
-        Err(fault) => Err(BackFault::Refused(fault)),
+    match verdict_over(&back, before, steps) {
+        Verdict::Exact => Ok(back),
+        Verdict::Wrong(wrong) => Err(BackFault::Wrong(wrong)),
     }
 }
 

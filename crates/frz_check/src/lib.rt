@@ -9,7 +9,7 @@ mod tables;
 mod verdict;
 
 pub use entries::check_entries;
-pub use frz_game::{ExitBook, Game, RuleBook, Wrong};
+pub use frz_game::{ExitBook, Game, Pair, RuleBook, Wrong};
 pub use loading::{CheckedCodes, load_checked};
 pub use tables::{check_kept, check_table};
 pub use verdict::Verdict;

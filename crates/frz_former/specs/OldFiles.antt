@@ -34,7 +34,7 @@ old_rules_of text = limited_read (rules_of text)
 -- the former format of table files
 abbrev pub old_format : Format
 old_format =
-    record { magic = old_magic; read = old_rules_of; size = λ rules. old_size_of rules.groups }
+    record { magic = λ front. old_magic; read = old_rules_of; size = λ rules. old_size_of rules.groups }
 
 -- what contracts see of an open file of the former format
 pub record OldTable : Type 0 where

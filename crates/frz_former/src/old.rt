@@ -83,7 +83,7 @@ fn open_steps<S: Store>(alloc: Global, store: &mut S, name: &str) -> Result<OldF
         (store_of S.Store store.old) (store_of S.Store store.new) }
     ensures name { IfOk result (λ t. t.name ≡ name.now) }
 {
-    let opened = open_text(alloc, store, name, magic())?;
+    let opened = open_text(alloc, store, name, Some(*magic()))?;
     let size = match limited_size(&opened.rules) {
         Ok(size) => size,
         Err(fault) => return Err(TableFault::Rules(fault)),

@@ -61,7 +61,7 @@ by_text format bytes =
 
 by_magic : (format : Format) (bytes : List ℕ) → OfBytes (with_magic format bytes)
 by_magic format bytes =
-    either (bytes_eq (take 8 bytes) format.magic) (with_length format bytes) (Err Magic)
+    either (bytes_eq (take 8 bytes) (format.magic (take 8 bytes))) (with_length format bytes) (Err Magic)
     (either (nat_lt 65536 (kept_length bytes)) (Err (Rules (record { line = 0; cause = TooLong })))
     (with_text format bytes) tt (by_text format bytes)) tt
 

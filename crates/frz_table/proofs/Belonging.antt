@@ -60,7 +60,7 @@ unfolding opened
 belongs format bytes contents h =
     let long = not_first (ltb (length bytes) 16) (Truncated (length bytes) 16)
     (with_magic format bytes) contents h in
-    let magic = not_second (bytes_eq (take 8 bytes) format.magic) (with_length format bytes) Magic
+    let magic = not_second (bytes_eq (take 8 bytes) (format.magic (take 8 bytes))) (with_length format bytes) Magic
     contents long.1 in
     let few = not_first (ltb 65536 (kept_length bytes))
     (Rules (record { line = 0; cause = TooLong })) (with_text format bytes) contents magic.1 in
@@ -76,7 +76,7 @@ belongs format bytes contents h =
     (drop 12 bytes) (omega (arith, enough, length-drop 12 bytes)) in
     let made_file : IsOpened format bytes made = record {
       file = record {
-        begins = (bytes_eq-Decides (take 8 bytes) format.magic).0 magic.0;
+        begins = (bytes_eq-Decides (take 8 bytes) (format.magic (take 8 bytes))).0 magic.0;
         counted = sym counted;
         has_text = ap (λ (n : ℕ). take n (drop 12 bytes)) counted;
         sized = ap (λ (n : ℕ). number_at (12 + n) bytes) counted ∙ size.0;
@@ -139,7 +139,8 @@ cut_begun format bytes contents k h within enough =
     (omega (arith, enough)) ∙ h.file.counted in
     long_enough format (take k bytes) (omega (arith, long, enough))
     ∙ right_magic format (take k bytes)
-    (take-take 8 k bytes (omega (arith, enough)) ∙ h.file.begins) ∙ short_text format (take k bytes)
+    (subst (λ (l : List ℕ). l ≡ format.magic l) (sym (take-take 8 k bytes (omega (arith, enough))))
+    h.file.begins) ∙ short_text format (take k bytes)
     (omega (arith, kept, h.short))
 
 cut_in_text : (format : Format) (bytes : List ℕ) (contents : Contents) (k : ℕ)

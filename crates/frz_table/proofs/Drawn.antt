@@ -1,6 +1,6 @@
 -- What a run of opening says in words of files that a name may hold.
-use Rattle.std.proofs.Common.{◌≡◌, inl, inr, refl, sym, ap, subst, ◌∙◌, ℕ, ◌+◌, ◌≤◌, nat_lt, Bool, true, false, cond, List, length, take, Option, Some, None, Result, Ok, Err, IfOk, IfSome, arith}
-use Rattle.std.specs.Option.{IsSomeAnd}
+use Rattle.std.proofs.Common.{◌≡◌, inl, inr, refl, sym, ap, subst, ◌∙◌, ℕ, ◌+◌, ◌≤◌, nat_lt, Bool, true, false, cond, List, [], length, take, Option, Some, None, Result, Ok, Err, IfOk, IfSome, arith}
+use Rattle.std.specs.Option.{IsSomeAnd, option_map, unwrap_or}
 use Rattle.std.specs.Prelude.{◌⊎◌, IfErr}
 use Rattle.std.specs.Result.{IsErrOf}
 use Rattle.std.specs.Str.{bytes_eq}
@@ -17,18 +17,18 @@ use Rattle.frz_store.specs.Told.{StoreTold}
 use Rattle.frz_store.specs.declared.outside.StoreFault.TheVariants as store
 use Rattle.frz_table.specs.Asking.{opening}
 use Rattle.frz_table.specs.Faults.{IsOutside, stop_of}
-use Rattle.frz_table.specs.Layout.{magic_of}
-use Rattle.frz_table.specs.Memory.{MemoryWanted, WantsMemory}
-use Rattle.frz_table.specs.Opening.{Contents, Format, Refuses, opened, opening_calls, calls_by_rules, kept_length, kept_text}
+use Rattle.frz_table.specs.Layout.{due_magic, kind_begun, magic_of}
+use Rattle.frz_table.specs.Memory.{WantsMemory}
+use Rattle.frz_table.specs.Opening.{Contents, Format, IsOfKind, Refuses, contents_of, format_for, opened, opening_calls, calls_by_rules, kept_length, kept_text}
 use Rattle.frz_table.specs.Possible.{MayHold, MayOpen, MayRefuse}
 use Rattle.frz_table.specs.Steps.{Refines}
-use Rattle.frz_table.specs.Tables.{Carries, Holds, IsTableFile, Table, table_size}
+use Rattle.frz_table.specs.Tables.{Begins, Carries, Holds, IsFileOf, IsTableFile, Table, table_size}
 use Rattle.frz_table.specs.declared.fault.TableFault.{TableFault}
 use Rattle.frz_table.specs.declared.fault.TableFault.TheVariants.{Missing, Magic, Truncated, Extra, Rules, Size, Failed, NoMemory}
 use Rattle.frz_table.specs.declared.kind.FileKind.{FileKind}
 use Rattle.frz_table.proofs.Belonging.{belongs}
 use Rattle.frz_table.proofs.HeldFiles.{text_kept}
-use Rattle.frz_table.proofs.OpeningOver.{most_asked, open_costs}
+use Rattle.frz_table.proofs.OpeningOver.{WantsDue, most_asked, open_costs}
 use Rattle.frz_table.proofs.Order.{open_tidy}
 use Rattle.frz_table.proofs.Stops.{Sort, failed, of_file, sort, wanted}
 
@@ -79,10 +79,15 @@ unfolding opening_calls
 most_calls format None = omega arith
 most_calls format (Some bytes) =
     most_both (nat_lt (length bytes) 16) _ _ 5 (omega arith)
-    (most_both (bytes_eq (take 8 bytes) format.magic) _ _ 5
+    (most_both (bytes_eq (take 8 bytes) (format.magic (take 8 bytes))) _ _ 5
     (most_both (nat_lt 65536 (kept_length bytes)) _ _ 5 (omega arith)
     (most_both (nat_lt (length bytes) (16 + kept_length bytes)) _ _ 5 (omega arith)
     (rules_calls (format.read (kept_text bytes))))) (omega arith))
+
+-- the bytes are a file of these contents
+abbrev pub IsFileBy : Format → Contents → List ℕ → Type 0
+IsFileBy format contents bytes =
+    IsTableFile (format.magic (take 8 bytes)) contents.text (format.size contents.rules) bytes
 
 module _ (format : Format) (refines : Refines format) (name : List ℕ) {T : Type 0}
     (view : T → Contents) (old new : StoreTold) where
@@ -182,7 +187,7 @@ module _ (format : Format) (refines : Refines format) (name : List ℕ) {T : Typ
           → new.asked ≤ old.asked + (16 + length (view t).text)
       by_held None k few = absurd cc
       by_held (Some bytes) k few =
-          let same = text_kept format.magic (view t).text (format.size (view t).rules) bytes
+          let same = text_kept (format.magic (take 8 bytes)) (view t).text (format.size (view t).rules) bytes
           (belongs format bytes (view t) k).file in
           let long = ap (length {A = ℕ}) same in omega (arith, few, long)
 
@@ -205,7 +210,7 @@ module _ (format : Format) (refines : Refines format) (name : List ℕ) {T : Typ
 
   -- a store that tells holds a file of the table
   pub carried_by : (r : Result T TableFault) → Run (opening format name) (end_of stop_of view r) old new
-      → IfOk r (λ t. Holds new.files name (IsTableFile format.magic (view t).text (format.size (view t).rules)))
+      → IfOk r (λ t. Holds new.files name (IsFileBy format (view t)))
   unfolding opened
   carried_by (Err f) run = tt
   carried_by (Ok t) run =
@@ -213,7 +218,7 @@ module _ (format : Format) (refines : Refines format) (name : List ℕ) {T : Typ
       (agreeing old.files h.m (λ m. IsSomeAnd (m name) P) h.held (by_held (h.m name) (opens t h)))
     where
       P : List ℕ → Type 0
-      P = IsTableFile format.magic (view t).text (format.size (view t).rules)
+      P = IsFileBy format (view t)
 
       h : Files_of (Ok t)
       h = all (Ok t) run
@@ -224,7 +229,7 @@ module _ (format : Format) (refines : Refines format) (name : List ℕ) {T : Typ
 
   -- where memory was wanted
   pub memory_by : (r : Result T TableFault) → Run (opening format name) (end_of stop_of view r) old new
-      → IsErrOf r NoMemory → MemoryWanted format.magic old.files name old.wants new.wants
+      → IsErrOf r NoMemory → Rose old.wants new.wants ⊎ Holds old.files name (WantsDue format)
   memory_by (Ok t) run is = absurd cc
   memory_by (Err f) run is = wanted_by h.wants
     where
@@ -236,17 +241,39 @@ module _ (format : Format) (refines : Refines format) (name : List ℕ) {T : Typ
           (subst (λ x. Run (opening format name) (stop_end {A = Contents} (stop_of x)) old new) e run)
 
       wanted_by : Rose old.wants new.wants ⊎ MayWant h.m (opening format name)
-          → MemoryWanted format.magic old.files name old.wants new.wants
+          → Rose old.wants new.wants ⊎ Holds old.files name (WantsDue format)
       wanted_by (inl k) = inl k
       wanted_by (inr k) =
-          inr (agreeing old.files h.m (λ m. IsSomeAnd (m name) (WantsMemory format.magic)) h.held
+          inr (agreeing old.files h.m (λ m. IsSomeAnd (m name) (WantsDue format)) h.held
           ((open_costs h.m format name refines).wants k))
 
+-- the magic that was due is that of the kind as which it was opened
+due_is : (asked : Option FileKind) (front bytes : List ℕ) (kind : FileKind) → take 8 bytes ≡ front
+    → kind ≡ unwrap_or asked (kind_begun front)
+    → due_magic (option_map magic_of asked) (take 8 bytes) ≡ magic_of kind
+due_is (Some k) front bytes kind e is = ap magic_of (sym is)
+due_is None front bytes kind e is =
+    ap (λ (l : List ℕ). magic_of (kind_begun l)) e ∙ ap magic_of (sym is)
+
 -- the table is the one of that name and kind
-pub carries_table : (kind : FileKind) (name : List ℕ) (files : Option Files) (r : Result Table TableFault)
-    → IfOk r (λ t. Holds files name (IsTableFile (magic_of kind) t.text (table_size t)))
-    → IfOk r (λ t. t.name ≡ name) → IfOk r (λ t. t.kind ≡ kind) → IfOk r (Carries files)
-carries_table kind name files (Err f) h n k = tt
-carries_table kind name files (Ok t) h n k =
-    subst (λ (q : List ℕ). Holds files q (IsTableFile (magic_of t.kind) t.text (table_size t))) (sym n)
-    (subst (λ (x : FileKind). Holds files name (IsTableFile (magic_of x) t.text (table_size t))) (sym k) h)
+pub carries_table : (asked : Option FileKind) (name : List ℕ) (old files : Option Files)
+    (r : Result Table TableFault) → files ≡ old
+    → IfOk r (λ t. Holds files name (IsFileBy (format_for asked) (contents_of t)))
+    → IfOk r (λ t. t.name ≡ name) → IfOk r (λ t. IsOfKind old name asked t.kind)
+    → IfOk r (Carries files)
+carries_table asked name old files (Err f) same h n k = tt
+carries_table asked name old files (Ok t) same h n k =
+    subst (λ (q : List ℕ). Holds files q (IsFileOf t)) (sym n)
+    (by_told files h (subst (λ (o : Option Files). Begins o name k.front) (sym same) k.begins))
+  where
+    by_held : (held : Option (List ℕ)) → IsSomeAnd held (IsFileBy (format_for asked) (contents_of t))
+        → take 8 (unwrap_or held []) ≡ k.front → IsSomeAnd held (IsFileOf t)
+    by_held None h b = absurd h
+    by_held (Some bytes) h b =
+        subst (λ (l : List ℕ). IsTableFile l t.text (table_size t) bytes)
+        (due_is asked k.front bytes t.kind b k.is) h
+
+    by_told : (o : Option Files) → Holds o name (IsFileBy (format_for asked) (contents_of t))
+        → Begins o name k.front → Holds o name (IsFileOf t)
+    by_told None h b = tt
+    by_told (Some m) h b = by_held (m name) h b

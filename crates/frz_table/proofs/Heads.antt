@@ -1,18 +1,28 @@
 -- The head of a file, step by step.
-use Rattle.std.proofs.Common.{◌≡◌, ℕ, ◌+◌, ◌<◌, ◌≤◌, true, false, List, Some, Result, Ok, Err}
+use Rattle.std.proofs.Common.{◌≡◌, ℕ, ◌+◌, ◌<◌, ◌≤◌, true, false, List, Option, Some, Result, Ok, Err, subst}
 use Rattle.std.specs.Str.{bytes_eq}
 use Rattle.frz_rules.specs.declared.fault.RulesCause.TheVariants.{TooLong}
+use Rattle.frz_store.specs.Files.{Files}
 use Rattle.frz_store.specs.Told.{StoreTold}
 use Rattle.frz_table.specs.declared.fault.TableFault.{TableFault}
 use Rattle.frz_table.specs.declared.fault.TableFault.TheVariants.{Magic, Truncated, Rules}
-use Rattle.frz_asks.specs.Trees.{ask_size, ask_bytes, bind}
+use Rattle.frz_asks.specs.Trees.{ask_size, ask_bytes, bind, over}
 use Rattle.frz_asks.specs.Runs.{End, came, Run}
-use Rattle.frz_asks.proofs.Lemmas.{run_none, run_on}
+use Rattle.frz_asks.proofs.Lemmas.{run_none, run_on, told_over}
 use Rattle.frz_table.specs.declared.head.Head.{Head}
 use Rattle.frz_table.specs.Asking.{number_of, by_length, by_magic, by_size, heading}
+use Rattle.frz_table.specs.Tables.{Begins}
 use Rattle.frz_table.proofs.Tests.{below, not_below}
 
-module _ (name magic : List ℕ) (file : ℕ) (old s1 : StoreTold)
+-- the bytes that were read are those with which the file begins
+pub begun : (name front : List ℕ) (old s1 s2 : StoreTold) → s1.files ≡ old.files
+    → Run (ask_bytes name 0 8) (came front) s1 s2 → Begins old.files name front
+unfolding over ask_bytes
+begun name front old s1 s2 same k =
+    subst (λ (o : Option Files). Begins o name front) same
+    (told_over (ask_bytes name 0 8) front s1 s2 k)
+
+module _ (name : List ℕ) (magic : List ℕ → List ℕ) (file : ℕ) (old s1 : StoreTold)
     (h : Run (ask_size name) (came (Some file)) old s1) where
   pub short : file < 16 → Run (heading name magic) (came (Err (Truncated file 16))) old s1
   unfolding heading
@@ -26,16 +36,16 @@ module _ (name magic : List ℕ) (file : ℕ) (old s1 : StoreTold)
 
   module _ (front : List ℕ) (s2 : StoreTold) (k : Run (ask_bytes name 0 8) (came front) s1 s2)
       (enough : 16 ≤ file) where
-    pub other : bytes_eq front magic ≡ false → Run (heading name magic) (came (Err Magic)) old s2
+    pub other : bytes_eq front (magic front) ≡ false → Run (heading name magic) (came (Err Magic)) old s2
     other e = long enough (run_on (by_magic name magic file) k (rw e (run_none _ _)))
 
-    pub same : {end : End (Result Head TableFault)} {new : StoreTold} → bytes_eq front magic ≡ true
+    pub same : {end : End (Result Head TableFault)} {new : StoreTold} → bytes_eq front (magic front) ≡ true
         → Run (bind (number_of name 8) (by_length file)) end s2 new
         → Run (heading name magic) end old new
     same e n = long enough (run_on (by_magic name magic file) k (rw e n))
 
     module _ (text : ℕ) (s3 : StoreTold) (n : Run (number_of name 8) (came text) s2 s3)
-        (e : bytes_eq front magic ≡ true) where
+        (e : bytes_eq front (magic front) ≡ true) where
       pub too_long : 65536 < text → Run (heading name magic)
           (came (Err (Rules (record { line = 0; cause = TooLong })))) old s3
       too_long l = same e (run_on (by_length file) n (rw (below 65536 text l) (run_none _ _)))

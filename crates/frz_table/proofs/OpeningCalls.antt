@@ -30,7 +30,7 @@ by_length format bytes = below_both (ltb 65536 (kept_length bytes)) 3 3 (calls_b
 by_magic : (format : Format) (bytes : List ℕ) → 2 ≤ calls_by_magic format bytes
 by_magic format bytes =
     let more = by_length format bytes in
-    below_both (bytes_eq (take 8 bytes) format.magic) 2 (calls_by_length format bytes) 2
+    below_both (bytes_eq (take 8 bytes) (format.magic (take 8 bytes))) 2 (calls_by_length format bytes) 2
     (omega (arith, more)) (omega arith)
 
 -- one call at least
@@ -49,10 +49,10 @@ unfolding opening_calls
 past_first format bytes h =
     ap (λ (t : Bool). cond t 1 (calls_by_magic format bytes)) (le-ltb (length bytes) 16 h)
 
-past_magic : (format : Format) (bytes : List ℕ) → take 8 bytes ≡ format.magic
+past_magic : (format : Format) (bytes : List ℕ) → take 8 bytes ≡ format.magic (take 8 bytes)
     → calls_by_magic format bytes ≡ calls_by_length format bytes
 past_magic format bytes h = ap (λ (t : Bool). cond t (calls_by_length format bytes) 2)
-    ((bytes_eq-Decides (take 8 bytes) format.magic).1 h)
+    ((bytes_eq-Decides (take 8 bytes) (format.magic (take 8 bytes))).1 h)
 
 past_text : (format : Format) (bytes : List ℕ) → kept_length bytes ≤ 65536
     → 16 + kept_length bytes ≤ length bytes

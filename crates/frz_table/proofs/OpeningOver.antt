@@ -27,6 +27,10 @@ use Rattle.frz_table.proofs.Tests.{at_least, both_if}
 abbrev pub most_asked : Option (List ℕ) → ℕ
 most_asked held = 16 + min 65536 (length (held_text held))
 
+-- the magic is the one that is due
+abbrev pub WantsDue : Format → List ℕ → Type 0
+WantsDue format bytes = WantsMemory (format.magic (take 8 bytes)) bytes
+
 abbrev pub after_head : Format → List ℕ → Head → Asks (Result Contents TableFault)
 after_head format name head = bind_ok (by_head name head) (by_text format name)
 
@@ -36,7 +40,7 @@ module _ (m : Files) (format : Format) (refines : Refines format) (name bytes : 
   most = most_asked (Some bytes)
 
   W : Type 0
-  W = WantsMemory format.magic bytes
+  W = WantsMemory (format.magic (take 8 bytes)) bytes
 
   -- bytes that were read
   cost_read : {A : Type 0} {a : A} {c all b : ℕ} (at count : ℕ) (f : List ℕ → Asks A)
@@ -56,7 +60,7 @@ module _ (m : Files) (format : Format) (refines : Refines format) (name bytes : 
   -- the head is right
   record IsHeaded : Type 0 where
     enough : 16 ≤ length bytes
-    begins : take 8 bytes ≡ format.magic
+    begins : take 8 bytes ≡ format.magic (take 8 bytes)
     short : kept_length bytes ≤ 65536
     fits : 16 + kept_length bytes ≤ length bytes
 
@@ -221,7 +225,7 @@ module _ (m : Files) (format : Format) (refines : Refines format) (name bytes : 
   unfolding most
   few_asked n h = omega (arith, h)
 
-  cost_length : {b : ℕ} → 16 ≤ length bytes → take 8 bytes ≡ format.magic → b ≤ 12
+  cost_length : {b : ℕ} → 16 ≤ length bytes → take 8 bytes ≡ format.magic (take 8 bytes) → b ≤ 12
       → Costs m (bind_ok (by_length (length bytes) (kept_length bytes)) after) (with_length format bytes)
       3 (calls_by_length format bytes) b most W
   unfolding after
@@ -242,15 +246,15 @@ module _ (m : Files) (format : Format) (refines : Refines format) (name bytes : 
       → Costs m (bind_ok (by_magic name format.magic (length bytes) (take 8 bytes)) after)
       (with_magic format bytes) 2 (calls_by_magic format bytes) b most W
   cost_magic {b = b} enough few =
-      cost_if_first (bytes_eq (take 8 bytes) format.magic) _ _ after
+      cost_if_first (bytes_eq (take 8 bytes) (format.magic (take 8 bytes))) _ _ after
       (λ e. cost_first (number_of name 8) (by_length (length bytes)) after
       (cost_number 8 (λ n. bind_ok (by_length (length bytes) n) after)
-      (cost_length enough ((bytes_eq-Decides (take 8 bytes) format.magic).0 e) (omega (arith, few)))))
+      (cost_length enough ((bytes_eq-Decides (take 8 bytes) (format.magic (take 8 bytes))).0 e) (omega (arith, few)))))
       (λ e. cost_refused Magic after (omega arith) (few_asked b (omega (arith, few))))
 
   pub cost_held : Costs m (bind_ok (by_size name format.magic (Some (length bytes))) (after_head format name))
       (opened format (Some bytes)) 1 (opening_calls format (Some bytes)) 0 (most_asked (Some bytes))
-      (WantsMemory format.magic bytes)
+      (WantsMemory (format.magic (take 8 bytes)) bytes)
   unfolding opened opening_calls after most W
   cost_held =
       cost_if_first (nat_lt (length bytes) 16) _ _ after
@@ -261,11 +265,11 @@ module _ (m : Files) (format : Format) (refines : Refines format) (name bytes : 
 
 pub open_costs : (m : Files) (format : Format) (name : List ℕ) → Refines format
     → Costs m (opening format name) (opened format (m name)) 0 (opening_calls format (m name)) 0
-    (most_asked (m name)) (IsSomeAnd (m name) (WantsMemory format.magic))
+    (most_asked (m name)) (IsSomeAnd (m name) (WantsDue format))
 unfolding opening texting heading opened opening_calls
 open_costs m format name refines =
     subst (λ p. Costs m p (opened format (m name)) 0 (opening_calls format (m name)) 0
-    (most_asked (m name)) (IsSomeAnd (m name) (WantsMemory format.magic)))
+    (most_asked (m name)) (IsSomeAnd (m name) (WantsDue format)))
     (sym (bind_ok-assoc (heading name format.magic) (by_head name) (by_text format name)))
     (cost_first (ask_size name) (by_size name format.magic) (after_head format name)
     (cost_size name (λ n. bind_ok (by_size name format.magic n) (after_head format name))
@@ -274,6 +278,6 @@ open_costs m format name refines =
     by_held : (held : Option (List ℕ)) → m name ≡ held
         → Costs m (bind_ok (by_size name format.magic (option_map length held)) (after_head format name))
         (opened format held) 1 (opening_calls format held) 0 (most_asked held)
-        (IsSomeAnd held (WantsMemory format.magic))
+        (IsSomeAnd held (WantsDue format))
     by_held None e = cost_refused Missing (after_head format name) (omega arith) (omega arith)
     by_held (Some bytes) e = cost_held m format refines name bytes e

@@ -35,16 +35,16 @@ head_length name file text =
     (λ e. either_then name (upto file 12) (nat_lt file (16 + text)) _ _ HeadAt
     (λ k. none_then name _ _ _ tt) (λ k. none_then name _ _ _ (refl, at_least file (16 + text) k)))
 
-head_magic : (name magic : List ℕ) (file : ℕ) (front : List ℕ) → 16 ≤ file
+head_magic : (name : List ℕ) (magic : List ℕ → List ℕ) (file : ℕ) (front : List ℕ) → 16 ≤ file
     → Reads name (upto file 8) (by_magic name magic file front) HeadAt
 unfolding HeadAt
 head_magic name magic file front long =
-    either_then name (upto file 8) (bytes_eq front magic) _ _ HeadAt
+    either_then name (upto file 8) (bytes_eq front (magic front)) _ _ HeadAt
     (λ e. number_then name (upto file 8) 8 (by_length file) HeadAt (omega arith, omega arith)
     (λ text. head_length name file text))
     (λ e. none_then name _ _ _ tt)
 
-head_size : (name magic : List ℕ) (n : Option ℕ)
+head_size : (name : List ℕ) (magic : List ℕ → List ℕ) (n : Option ℕ)
     → Reads name (mark_by_size n) (by_size name magic n) HeadAt
 unfolding HeadAt
 head_size name magic None = none_then name absent _ _ tt
@@ -54,7 +54,7 @@ head_size name magic (Some file) =
     bytes_then name (upto file 0) 0 8 (by_magic name magic file) HeadAt (omega arith, omega (arith, long))
     (λ front l. head_magic name magic file front long))
 
-head_reads : (name magic : List ℕ) → Reads name unasked (heading name magic) HeadAt
+head_reads : (name : List ℕ) (magic : List ℕ → List ℕ) → Reads name unasked (heading name magic) HeadAt
 unfolding heading
 head_reads name magic = size_then name (by_size name magic) HeadAt (head_size name magic)
 
@@ -72,7 +72,7 @@ text_kept name file count text (Ok rules) long fits =
     memory_then name _ _ _ (none_then name _ _ _
     (ap (λ n. upto file (12 + n)) (sym long), omega (arith, long, fits)))
 
-text_reads : (name magic : List ℕ) → Reads name unasked (texting name magic) TextAt
+text_reads : (name : List ℕ) (magic : List ℕ → List ℕ) → Reads name unasked (texting name magic) TextAt
 unfolding texting reading HeadAt TextAt
 text_reads name magic =
     ok_then name unasked (heading name magic) (by_head name) HeadAt TextAt (head_reads name magic)

@@ -1,5 +1,5 @@
 -- Each step of opening a file: where it refuses, and where it goes on.
-use Rattle.std.proofs.Common.{◌≡◌, refl, ap, ◌∙◌, ℕ, ◌+◌, ◌<◌, ◌≤◌, List, length, take, Some, None, Bool, true, Result, Ok, Err, arith, cond, ltb}
+use Rattle.std.proofs.Common.{◌≡◌, refl, ap, ◌∙◌, ℕ, ◌+◌, ◌<◌, ◌≤◌, List, length, take, Option, Some, None, Bool, true, Result, Ok, Err, arith, cond, ltb}
 use Rattle.std.specs.Str.{bytes_eq}
 use Rattle.std.proofs.lemmas.Bool.{lt-ltb, le-ltb, eq-eqb}
 use Rattle.std.proofs.lemmas.Slice.Eq.{bytes_eq-Decides}
@@ -9,7 +9,7 @@ use Rattle.frz_table.specs.declared.fault.TableFault.{TableFault}
 use Rattle.frz_table.specs.declared.fault.TableFault.TheVariants.{Missing, Magic, Truncated, Extra, Rules, Size}
 use Rattle.frz_table.specs.declared.kind.FileKind.{FileKind}
 use Rattle.frz_table.specs.Layout.{due_length}
-use Rattle.frz_table.specs.Opening.{Format, Contents, table_format, opened, with_magic, with_length, with_text, with_rules, of_size, of_length, kept_length, kept_text, kept_size}
+use Rattle.frz_table.specs.Opening.{Format, Contents, format_for, opened, with_magic, with_length, with_text, with_rules, of_size, of_length, kept_length, kept_text, kept_size}
 use Rattle.frz_table.specs.Steps.{HasSize, Refines}
 
 abbrev pub Given : Type 0
@@ -37,14 +37,14 @@ long_enough format bytes h =
 
 -- step 3
 magic_tested : (format : Format) (bytes : List ℕ) (b : Bool)
-    → bytes_eq (take 8 bytes) format.magic ≡ b
+    → bytes_eq (take 8 bytes) (format.magic (take 8 bytes)) ≡ b
     → with_magic format bytes ≡ cond b (with_length format bytes) (Err Magic)
 magic_tested format bytes b h = ap (λ (t : Bool). cond t (with_length format bytes) (Err Magic)) h
 
-pub right_magic : (format : Format) (bytes : List ℕ) → take 8 bytes ≡ format.magic
+pub right_magic : (format : Format) (bytes : List ℕ) → take 8 bytes ≡ format.magic (take 8 bytes)
     → with_magic format bytes ≡ with_length format bytes
 right_magic format bytes h =
-    magic_tested format bytes true ((bytes_eq-Decides (take 8 bytes) format.magic).1 h)
+    magic_tested format bytes true ((bytes_eq-Decides (take 8 bytes) (format.magic (take 8 bytes))).1 h)
 
 -- step 4
 long_text : (format : Format) (bytes : List ℕ) → 65536 < kept_length bytes
@@ -89,5 +89,5 @@ of_due text rules size bytes h =
     ∙ ap (λ (t : Bool). cond t (Err (Extra (length bytes) due)) (Ok contents))
     (le-ltb due (length bytes) (omega (arith, h.due)))
 
-pub table_refines : (kind : FileKind) → Refines (table_format kind)
+pub table_refines : (kind : Option FileKind) → Refines (format_for kind)
 table_refines kind = record { refuses = λ text fault h. h }

@@ -29,18 +29,19 @@ by_length file text =
     (if nat_lt file (16 + text) then gives (Err (Truncated file (16 + text)))
     else gives (Ok (record { file = file; text = text })))
 
-abbrev pub by_magic : (name magic : List ℕ) → ℕ → List ℕ → Asks (Result Head TableFault)
+abbrev pub by_magic : (name : List ℕ) (magic : List ℕ → List ℕ) → ℕ → List ℕ
+    → Asks (Result Head TableFault)
 by_magic name magic file front =
-    if bytes_eq front magic then bind (number_of name 8) (by_length file) else gives (Err Magic)
+    if bytes_eq front (magic front) then bind (number_of name 8) (by_length file) else gives (Err Magic)
 
-abbrev pub by_size : (name magic : List ℕ) → Option ℕ → Asks (Result Head TableFault)
+abbrev pub by_size : (name : List ℕ) (magic : List ℕ → List ℕ) → Option ℕ → Asks (Result Head TableFault)
 by_size name magic None = gives (Err Missing)
 by_size name magic (Some file) =
     if nat_lt file 16 then gives (Err (Truncated file 16))
     else bind (ask_bytes name 0 8) (by_magic name magic file)
 
--- the first five steps: the file is there, long enough, of this magic, and has room for its text
-unfoldable pub heading : (name magic : List ℕ) → Asks (Result Head TableFault)
+-- the first five steps: the file is there, long enough, of the magic that is due, and has room for its text
+unfoldable pub heading : (name : List ℕ) (magic : List ℕ → List ℕ) → Asks (Result Head TableFault)
 heading name magic = bind (ask_size name) (by_size name magic)
 
 -- the length of a file, and the text in it with its rules
@@ -64,7 +65,7 @@ abbrev pub by_head : List ℕ → Head → Asks (Result Opened TableFault)
 by_head name head = bind (ask_bytes name 12 head.text) (reading head.file)
 
 -- and then the text gives rules
-unfoldable pub texting : (name magic : List ℕ) → Asks (Result Opened TableFault)
+unfoldable pub texting : (name : List ℕ) (magic : List ℕ → List ℕ) → Asks (Result Opened TableFault)
 texting name magic = bind_ok (heading name magic) (by_head name)
 
 -- the kept size is that of the rules, and the length of the file is the one that is due by it

@@ -1,6 +1,7 @@
 -- The bytes of a table file: a header of magic, length of the
 -- text, text and size, then White's codes, then Black's.
-use Rattle.std.specs.Prelude.{ℕ, ◌+◌, ◌*◌, ◌/◌, List, ◌++◌, length, drop, codes}
+use Rattle.std.specs.Prelude.{ℕ, ◌+◌, ◌*◌, ◌/◌, List, ◌++◌, length, drop, codes, Bool, true, false, Option, Some, None}
+use Rattle.std.specs.Str.{bytes_eq}
 use Rattle.std.specs.Int.{w32, to_le_bytes}
 use Rattle.frz_board.specs.declared.man.Colour.{Colour}
 use Rattle.frz_board.specs.declared.man.Colour.TheVariants.{White, Black}
@@ -13,6 +14,21 @@ abbrev pub magic_of : FileKind → List ℕ
 magic_of Plain = codes "FREEZER2"
 magic_of Chained = codes "FREEZERC"
 magic_of Atlas = codes "FREEZERA"
+
+-- the kind of a file that begins so, where it is opened as its own: Atlas where it begins as a table
+-- that leans on others, and else Plain
+abbrev pub kind_by : Bool → FileKind
+kind_by true = Atlas
+kind_by false = Plain
+
+abbrev pub kind_begun : List ℕ → FileKind
+kind_begun front = kind_by (bytes_eq front (magic_of Atlas))
+
+-- the first eight bytes that are due where these eight stand: the ones that are given, or those of
+-- the kind of a file that begins so
+abbrev pub due_magic : Option (List ℕ) → List ℕ → List ℕ
+due_magic (Some magic) = λ front. magic
+due_magic None = λ front. magic_of (kind_begun front)
 
 abbrev pub header_of : List ℕ → List ℕ → ℕ → List ℕ
 header_of magic text size =

@@ -1,7 +1,9 @@
 -- What it is to open a file: eight steps in order, of which the first that refuses counts.
 use Rattle.std.specs.Prelude.{ℕ, ◌+◌, ◌≡◌, ◌≤◌, nat_lt, ◌==◌, List, length, take, drop, Option, Some, None, Result, Ok, Err, if◌then◌else◌, ⊤}
+use Rattle.std.specs.Option.{option_map, unwrap_or}
 use Rattle.std.specs.Str.{bytes_eq}
 use Rattle.frz_sets.specs.Views.{RuleLines}
+use Rattle.frz_store.specs.Files.{Files}
 use Rattle.frz_sets.specs.Sets.{size_of}
 use Rattle.frz_rules.specs.Text.{rules_of}
 use Rattle.frz_rules.specs.declared.fault.RulesCause.TheVariants.{TooLong}
@@ -10,19 +12,36 @@ use Rattle.frz_table.specs.declared.fault.TableFault.{TableFault}
 use Rattle.frz_table.specs.declared.fault.TableFault.TheVariants.{Missing, Magic, Truncated, Extra, Rules, Size, Failed, NoMemory}
 use Rattle.frz_table.specs.declared.kind.FileKind.{FileKind}
 use Rattle.frz_table.specs.Numbers.{number_at}
-use Rattle.frz_table.specs.Layout.{magic_of, due_length}
-use Rattle.frz_table.specs.Tables.{Table, IsTableFile}
+use Rattle.frz_table.specs.Layout.{magic_of, due_length, due_magic, kind_begun}
+use Rattle.frz_table.specs.Tables.{Begins, Table, IsTableFile}
 
--- what distinguishes one format of table files from another: its magic, how it reads a text, and
--- the size that rules have
+-- what distinguishes one format of table files from another: the magic that is due where a file
+-- begins with eight bytes, how it reads a text, and the size that rules have
 pub record Format : Type 0 where
-  pub magic : List ℕ
+  pub magic : List ℕ → List ℕ
   pub read : List ℕ → Result RuleLines RulesFault
   pub size : RuleLines → ℕ
 
+-- the format of files of this kind, or with None of files of the kind as which they begin
+abbrev pub format_for : Option FileKind → Format
+format_for kind = record {
+  magic = due_magic (option_map magic_of kind);
+  read = rules_of;
+  size = λ rules. size_of rules.groups;
+}
+
 abbrev pub table_format : FileKind → Format
-table_format kind =
-    record { magic = magic_of kind; read = rules_of; size = λ rules. size_of rules.groups }
+table_format kind = format_for (Some kind)
+
+abbrev pub own_format : Format
+own_format = format_for None
+
+-- the kind as which a file was opened: the one that was asked for, or that of its first bytes
+pub record IsOfKind (files : Option Files) (name : List ℕ) (asked : Option FileKind)
+    (kind : FileKind) : Type 0 where
+  pub front : List ℕ
+  pub begins : Begins files name front
+  pub is : kind ≡ unwrap_or asked (kind_begun front)
 
 -- what opening a file gives
 pub record Contents : Type 0 where
@@ -68,7 +87,7 @@ with_length format bytes =
 
 abbrev pub with_magic : Format → List ℕ → Result Contents TableFault
 with_magic format bytes =
-    if bytes_eq (take 8 bytes) format.magic then with_length format bytes else Err Magic
+    if bytes_eq (take 8 bytes) (format.magic (take 8 bytes)) then with_length format bytes else Err Magic
 
 -- what opening a name gives: the name holds these bytes, or is not there
 unfoldable pub opened : Format → Option (List ℕ) → Result Contents TableFault
@@ -93,7 +112,7 @@ calls_by_length format bytes =
 
 abbrev pub calls_by_magic : Format → List ℕ → ℕ
 calls_by_magic format bytes =
-    if bytes_eq (take 8 bytes) format.magic then calls_by_length format bytes else 2
+    if bytes_eq (take 8 bytes) (format.magic (take 8 bytes)) then calls_by_length format bytes else 2
 
 unfoldable pub opening_calls : Format → Option (List ℕ) → ℕ
 opening_calls format None = 1
@@ -112,7 +131,7 @@ Refuses given fault = given ≡ Err fault
 -- the bytes are a file of this format with this text and the size of these rules, and the text
 -- gives these rules
 pub record IsOpened (format : Format) (bytes : List ℕ) (contents : Contents) : Type 0 where
-  pub file : IsTableFile format.magic contents.text (format.size contents.rules) bytes
+  pub file : IsTableFile (format.magic (take 8 bytes)) contents.text (format.size contents.rules) bytes
   pub short : length contents.text ≤ 65536
   pub read : format.read contents.text ≡ Ok contents.rules
 

@@ -4,7 +4,7 @@ use Rattle.frz_sets.specs.Views.{RuleLines}
 use Rattle.frz_sets.specs.Sets.{size_of}
 use Rattle.frz_sets.specs.Sound.{IsSound}
 use Rattle.frz_rules.specs.Text.{rules_of}
-use Rattle.frz_store.specs.Files.{Files}
+use Rattle.frz_store.specs.Files.{Files, bytes_at}
 use Rattle.frz_table.specs.declared.kind.FileKind.{FileKind}
 use Rattle.frz_table.specs.Numbers.{AreBytes, number_at}
 use Rattle.frz_table.specs.Layout.{magic_of, due_length}
@@ -40,6 +40,10 @@ IsFileOf table bytes = IsTableFile (magic_of table.kind) table.text (table_size 
 -- if the store tells, the file is there and its bytes have the property P
 abbrev pub Holds : Option Files → List ℕ → (List ℕ → Type 0) → Type 0
 Holds files name P = IfSome files (λ m. IsSomeAnd (m name) P)
+
+-- if the store tells, the bytes of the name begin so
+abbrev pub Begins : Option Files → List ℕ → List ℕ → Type 0
+Begins files name front = IfSome files (λ m. take 8 (bytes_at m name) ≡ front)
 
 -- if the store tells, the table's name holds a file of the table
 abbrev pub Carries : Option Files → Table → Type 0

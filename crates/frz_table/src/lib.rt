@@ -21,7 +21,7 @@ pub use codes::load_codes;
 pub use fault::TableFault;
 pub use frz_index::Set;
 pub use kind::FileKind;
-pub use opening::{open_kind, open_table};
+pub use opening::{open_kind, open_own, open_table};
 pub use sizes::check_size;
 pub use table::TableFile;
 pub use texts::{Text, open_text};

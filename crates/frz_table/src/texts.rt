@@ -6,7 +6,8 @@ ghost use Rattle.frz_store.specs.Files.{Covers};
 ghost use Rattle.frz_store.specs.Told.{store_of};
 ghost use Rattle.frz_table.specs.Asking.{texting};
 ghost use Rattle.frz_table.specs.Faults.{stop_of};
-ghost use Rattle.frz_table.specs.Tables.{IsRead};
+ghost use Rattle.frz_table.specs.Layout.{due_magic};
+ghost use Rattle.frz_table.specs.Tables.{Begins, IsRead};
 ghost use Rattle.frz_table.specs.Views.{opened_of};
 
 use crate::TableFault;
@@ -17,10 +18,12 @@ use frz_rules::{Rules, read_rules};
 use frz_store::{Store, StoreFault};
 use std::alloc::Global;
 
-/// The length of a file in bytes, the rules text in it, and the rules that the text gives.
+/// The length of a file in bytes, the eight with which it begins, the rules text in it, and the rules
+/// that the text gives.
 #[derive(Drop)]
 pub struct Text {
     pub file: u64,
+    pub magic: [u8; 8],
     pub text: Vec<u8>,
     pub rules: Rules,
 }
@@ -44,22 +47,23 @@ fn read_text<S: Store>(
     read_at(store, name, 12, into)
 }
 
-/// The first six steps of opening a file: those of its head, and the text gives rules. No memory is
-/// taken before the rules are read.
+/// The first six steps of opening a file: those of its head, and the text gives rules. Where no magic
+/// is given, that of its own kind is due. No memory is taken before the rules are read.
 pub fn open_text<S: Store>(
     alloc: Global,
     store: &mut S,
     name: &str,
-    magic: &[u8; 8],
+    magic: Option<[u8; 8]>,
 ) -> Result<Text, TableFault>
-    ensures run { Run (texting name.now magic.now) (end_of stop_of opened_of result)
+    ensures run { Run (texting name.now (due_magic magic)) (end_of stop_of opened_of result)
         (store_of S.Store store.old) (store_of S.Store store.new) }
+    ensures begins { IfOk result (λ t. Begins (S.files store.old) name.now t.magic) }
     ensures sized { IfOk result (λ t. Sized (S.files store.new) name.now t.file) }
     ensures read { IfOk result (λ t. IsRead t.text.items t.rules) }
     ensures short { IfOk result (λ t. length t.text.items ≤ 65536) }
     ensures fits { IfOk result (λ t. 16 + length t.text.items ≤ t.file) }
 {
-    let head = read_head(store, name, magic)?;
+    let (head, magic) = read_head(store, name, magic)?;
     let mut buffer = [0; LONGEST_TEXT as usize];
     let text = &mut buffer[..head.text as usize];
     read_text(store, name, head.text, text)?;
@@ -68,6 +72,7 @@ pub fn open_text<S: Store>(
     let text = Vec::from_slice(alloc, text)?;
     Ok(Text {
         file: head.file,
+        magic,
         text,
         rules,
     })

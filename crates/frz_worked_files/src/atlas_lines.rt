@@ -156,9 +156,9 @@ fn lines_over_tables_behind(rt: HostRuntime) -> Result<(), Fail> {
     Ok(())
 }
 
-/// Opening the table takes five calls; opening the one behind it as its own kind, seven, and loading
+/// Opening the table takes five calls, opening the one behind it as its own kind as many, and loading
 /// the codes of both, two each. Where one fails, nothing is written.
-const CALLS: u64 = 16;
+const CALLS: u64 = 14;
 
 #[test]
 fn each_call_of_a_line_may_fail_before_anything_is_written(rt: HostRuntime) -> Result<(), Fail> {

@@ -153,9 +153,9 @@ fn reports_over_tables_behind(rt: HostRuntime) -> Result<(), Fail> {
     Ok(())
 }
 
-/// Opening the table takes five calls; opening the two behind it as their own kinds, seven each, and
+/// Opening the table takes five calls, opening the two behind it as their own kinds as many each, and
 /// loading the codes of the three, two each. Where one fails, nothing is written.
-const CALLS: u64 = 25;
+const CALLS: u64 = 21;
 
 #[test]
 fn each_call_may_fail_before_anything_is_written(rt: HostRuntime) -> Result<(), Fail> {

@@ -1,7 +1,7 @@
 use Rattle.std.proofs.Common.{◌∙◌, ap, ℕ, List, [], ◌∷◌, ◌++◌, map, take}
 use Rattle.frz_sets.specs.Sets.{size_of}
 use Rattle.frz_backs.specs.BackTable.{BackTable}
-use Rattle.frz_atlas.proofs.Names.{names_next}
+use Rattle.frz_atlas.proofs.Several.{names_next}
 use Rattle.frz_atlas.proofs.checking.sizes_of.Goals as goal
 
 pub loop-back-preserved : goal.loop-back-preserved

@@ -1,8 +1,10 @@
 use Rattle.std.proofs.Common.{arith}
 use Rattle.std.proofs.lemmas.Result.{err_from_is_err_and}
 use Rattle.frz_asks.proofs.Lemmas.{covers, halt_first, run_none, run_on, size_told, sized_on}
+use Rattle.frz_store.specs.Told.{store_of}
 use Rattle.frz_table.specs.Asking.{by_size, heading}
-use Rattle.frz_table.proofs.Heads.{short, long, other, same, too_long, cut, whole}
+use Rattle.frz_table.specs.Layout.{due_magic}
+use Rattle.frz_table.proofs.Heads.{begun, short, long, other, same, too_long, cut, whole}
 use Rattle.frz_table.proofs.Stops.{halts}
 use Rattle.frz_table.proofs.Tests.{not_is_true, not_is_false}
 use Rattle.frz_table.proofs.head.read_head.Goals as goal
@@ -10,7 +12,7 @@ use Rattle.frz_table.proofs.head.read_head.Goals as goal
 pub returns-in_default-clause-run : goal.returns-in_default-clause-run
 unfolding heading
 returns-in_default-clause-run g c =
-    run_on (by_size c.args.name.now c.args.magic.now) (rw c.in_default.is at c.in_ok-file.ensures)
+    run_on (by_size c.args.name.now (due_magic c.args.magic)) (rw c.in_default.is at c.in_ok-file.ensures)
     (run_none _ _)
 
 pub returns-in_err-file-clause-run : goal.returns-in_err-file-clause-run
@@ -39,7 +41,7 @@ pub returns-then-ne-clause-run : goal.returns-then-ne-clause-run
 returns-then-ne-clause-run g c =
     other _ _ _ _ _ (rw c.in-Some.is at c.in_ok-file.ensures) _ _ c.in_ok-read_at.ensures.came
     (omega arith)
-    (not_is_true _ (rw (c.as_slice.ensures, c.as_slice-2.ensures) at c.if-ne.ensures))
+    (not_is_true _ (rw (c.as_slice.ensures, c.as_slice-2.ensures, c.due_bytes.ensures) at c.if-ne.ensures))
 
 pub read_number-requires : goal.read_number-requires
 read_number-requires g c =
@@ -53,14 +55,14 @@ returns-in_err-text-clause-run g c =
     c.from_residual-in_err-text.ensures.1 in
     rw (p.1, p.2) (halts _ (same _ _ _ _ _ (rw c.in-Some.is at c.in_ok-file.ensures) _ _
     c.in_ok-read_at.ensures.came (omega arith)
-    (not_is_false _ (rw (c.as_slice.ensures, c.as_slice-2.ensures) at c.if-ne.ensures))
+    (not_is_false _ (rw (c.as_slice.ensures, c.as_slice-2.ensures, c.due_bytes.ensures) at c.if-ne.ensures))
     (halt_first _ c.in_err-text.ensures.run)))
 
 pub returns-then-text-gt-LONGEST_TEXT-clause-run : goal.returns-then-text-gt-LONGEST_TEXT-clause-run
 returns-then-text-gt-LONGEST_TEXT-clause-run g c =
     too_long _ _ _ _ _ (rw c.in-Some.is at c.in_ok-file.ensures) _ _ c.in_ok-read_at.ensures.came
     (omega arith) _ _ c.in_ok-text.ensures.run
-    (not_is_false _ (rw (c.as_slice.ensures, c.as_slice-2.ensures) at c.if-ne.ensures))
+    (not_is_false _ (rw (c.as_slice.ensures, c.as_slice-2.ensures, c.due_bytes.ensures) at c.if-ne.ensures))
     c.if-text-gt-LONGEST_TEXT.true
 
 pub returns-then-file-due-clause-run : goal.returns-then-file-due-clause-run
@@ -68,14 +70,14 @@ returns-then-file-due-clause-run g c =
     rw c.from-due.ensures
     (cut _ _ _ _ _ (rw c.in-Some.is at c.in_ok-file.ensures) _ _ c.in_ok-read_at.ensures.came
     (omega arith) _ _ c.in_ok-text.ensures.run
-    (not_is_false _ (rw (c.as_slice.ensures, c.as_slice-2.ensures) at c.if-ne.ensures))
+    (not_is_false _ (rw (c.as_slice.ensures, c.as_slice-2.ensures, c.due_bytes.ensures) at c.if-ne.ensures))
     (omega arith) (omega arith))
 
 pub returns-clause-run : goal.returns-clause-run
 returns-clause-run g c =
     whole _ _ _ _ _ (rw c.in-Some.is at c.in_ok-file.ensures) _ _ c.in_ok-read_at.ensures.came
     (omega arith) _ _ c.in_ok-text.ensures.run
-    (not_is_false _ (rw (c.as_slice.ensures, c.as_slice-2.ensures) at c.if-ne.ensures))
+    (not_is_false _ (rw (c.as_slice.ensures, c.as_slice-2.ensures, c.due_bytes.ensures) at c.if-ne.ensures))
     (omega arith) (omega arith)
 
 pub returns-clause-sized : goal.returns-clause-sized
@@ -83,3 +85,9 @@ returns-clause-sized g c =
     sized_on _ _ _ _ c.in_ok-text.ensures.run.quiet.unwritten.files
     (sized_on _ _ _ _ c.in_ok-read_at.ensures.came.quiet.unwritten.files
     (size_told _ _ _ _ (rw c.in-Some.is at c.in_ok-file.ensures)))
+
+pub returns-clause-begins : goal.returns-clause-begins
+returns-clause-begins g c =
+    begun c.args.name.now c.read_at.new.into (store_of g.S.Store c.args.store.now)
+    (store_of g.S.Store c.size_of.new.store) (store_of g.S.Store c.read_at.new.store)
+    c.in_ok-file.ensures.quiet.unwritten.files c.in_ok-read_at.ensures.came
