@@ -18,7 +18,6 @@ use Rattle.frz_store.specs.declared.outside.StoreFault.TheVariants as store
 use Rattle.frz_table.specs.Asking.{opening}
 use Rattle.frz_table.specs.Faults.{IsOutside, stop_of}
 use Rattle.frz_table.specs.Layout.{due_magic, kind_begun, magic_of}
-use Rattle.frz_table.specs.Memory.{WantsMemory}
 use Rattle.frz_table.specs.Opening.{Contents, Format, IsOfKind, Refuses, contents_of, format_for, opened, opening_calls, calls_by_rules, kept_length, kept_text}
 use Rattle.frz_table.specs.Possible.{MayHold, MayOpen, MayRefuse}
 use Rattle.frz_table.specs.Steps.{Refines}
