@@ -1,5 +1,5 @@
 -- Tables behind each other, of which one more is opened or refused.
-use Rattle.std.proofs.Common.{◌≡◌, refl, sym, ap, subst, ◌∙◌, ℕ, ◌+◌, ◌≤◌, List, [], ◌∷◌, ◌++◌, length, map, Option, Some, arith, append_assoc, append-nil}
+use Rattle.std.proofs.Common.{◌≡◌, refl, sym, ap, subst, ◌∙◌, ℕ, zero, suc, ◌+◌, ◌≤◌, List, [], ◌∷◌, ◌++◌, length, map, Option, Some, arith, append_assoc, append-nil}
 use Rattle.std.specs.Prelude.{sum_by}
 use Rattle.std.proofs.lemmas.List.{length-map, map-append}
 use Rattle.std.proofs.lemmas.List.Sums.{sum_by-append, sum_by-cons}
@@ -19,6 +19,7 @@ use Rattle.frz_atlas.specs.Causes.{back_fault}
 use Rattle.frz_atlas.specs.Costs.{WithinAll, WithinOne, bytes_of, calls_of, steps_of}
 use Rattle.frz_atlas.specs.Held.{MayHoldAll, all_held}
 use Rattle.frz_atlas.specs.Opening.{IsOneRefused, MayBeRefused, OpensAll, OpensOver, RefusesAll, RefusesOver}
+use Rattle.frz_atlas.specs.declared.fault.AtlasFault.{AtlasFault}
 use Rattle.frz_atlas.specs.declared.fault.AtlasFault.TheVariants as atlas
 use Rattle.frz_atlas.specs.declared.fault.BackFault.{BackFault}
 use Rattle.frz_atlas.specs.declared.fault.BackFault.TheVariants as one
@@ -231,3 +232,38 @@ memory_wanted names more backs old new steps_before steps_now h = record {
   within = within_all (all_held h.tables) (some_helds old.files more) old new steps_before steps_now
       h.within;
 }
+
+-- one of these is refused, and so is one of these and more
+refused_of_more : (before : List Back) (helds rest : List (Option (List ℕ))) (place : ℕ)
+    (fault : BackFault) → IsRefusedAt before helds place fault
+    → IsRefusedAt before (helds ++ rest) place fault
+unfolding IsRefusedAt
+refused_of_more before [] rest place fault h = absurd h
+refused_of_more before (held ∷ helds) rest zero fault h = h
+refused_of_more before (held ∷ helds) rest (suc place) fault h = (
+  h.0,
+  h.1,
+  h.2,
+  refused_of_more (before ++ (back_of h.0.contents h.0.bytes ∷ [])) helds rest place fault h.3,
+)
+
+fault_of_more : (helds rest : List (Option (List ℕ))) (fault : AtlasFault)
+    → IsOneRefused helds fault → IsOneRefused (helds ++ rest) fault
+fault_of_more helds rest (atlas.Back place f) r = refused_of_more [] helds rest place f r
+fault_of_more helds rest atlas.Failed r = tt
+fault_of_more helds rest atlas.NoMemory r = tt
+fault_of_more helds rest (atlas.Rules f) r = absurd r
+fault_of_more helds rest (atlas.Table f) r = absurd r
+
+pub refused_among : (names more : List (List ℕ)) (old new : StoreTold)
+    (steps_before steps_now : ℕ) (fault : AtlasFault)
+    → RefusesAll names old new steps_before steps_now fault
+    → RefusesAll (names ++ more) old new steps_before steps_now fault
+refused_among names more old new steps_before steps_now fault h =
+    let rest = some_helds old.files more in
+    record {
+      helds = h.helds ++ rest;
+      may = may_hold_both old.files names more h.helds rest h.may (may_hold_some old.files more);
+      refuses = fault_of_more h.helds rest fault h.refuses;
+      within = within_all h.helds rest old new steps_before steps_now h.within;
+    }

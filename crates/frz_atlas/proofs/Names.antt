@@ -1,5 +1,5 @@
 -- A step over names in order: those before a place, the one at it and those behind it.
-use Rattle.std.proofs.Common.{◌≡◌, sym, ap, subst, ◌∙◌, ℕ, suc, ◌+◌, ◌<◌, List, [], ◌∷◌, ◌++◌, length, map, take, drop, get_or, drop-cons, append_assoc}
+use Rattle.std.proofs.Common.{◌≡◌, sym, ap, subst, ◌∙◌, ℕ, suc, ◌+◌, ◌<◌, List, [], ◌∷◌, ◌++◌, length, map, take, drop, get_or, drop-cons, append_assoc, append-nil}
 use Rattle.std.proofs.lemmas.List.{map-append, map_more, take-append-drop}
 use Rattle.frz_store.specs.Told.{StoreTold}
 use Rattle.frz_chain.specs.Books.{Back}
@@ -82,3 +82,38 @@ module _ {A : Type 0} (f : A → List ℕ) (names : List A) (i : ℕ) (x : A) (n
       ∙ names_here f names i x inside is)
       (memory_wanted (map f (take i names) ++ (f x ∷ [])) (map f (drop (suc i) names))
       (items ++ (given ∷ [])) old new steps_before steps_now (next_open given k))
+
+-- a name behind all others is opened over the tables of those
+module _ (names : List (List ℕ)) (last : List ℕ) (items slice : List BackTable)
+    (old mid new : StoreTold) (steps_before steps_between steps_now : ℕ) (sliced : slice ≡ items)
+    (h : OpensAll names items old mid steps_before steps_between)
+    (same : mid.files ≡ old.files) where
+  same_backs_in_front : map loaded_back slice ≡ backs_of (map link_loaded items)
+  same_backs_in_front = ap (map loaded_back) sliced ∙ sym (loaded_backs items)
+
+  pub last_open : (given : BackTable)
+      → OpensOver (map loaded_back slice) last given mid new steps_between steps_now
+      → OpensAll (names ++ (last ∷ [])) (items ++ (given ∷ [])) old new steps_before steps_now
+  last_open given k =
+      one_more_open names items old mid new steps_before steps_between steps_now last h same given
+      (subst (λ (l : List Back). OpensOver l last given mid new steps_between steps_now)
+      same_backs_in_front k)
+
+  pub last_refused : (place : ℕ) (fault : BackFault) → place ≡ length items
+      → RefusesOver (map loaded_back slice) last mid new steps_between steps_now fault
+      → RefusesAll (names ++ (last ∷ [])) old new steps_before steps_now (back_fault place fault)
+  last_refused place fault many k =
+      subst (λ (n : ℕ). RefusesAll (names ++ (last ∷ [])) old new steps_before steps_now
+      (back_fault n fault)) (sym many)
+      (one_refused names items old mid new steps_before steps_between steps_now last h same [] fault
+      (subst (λ (l : List Back). RefusesOver l last mid new steps_between steps_now fault)
+      same_backs_in_front k))
+
+  pub last_wanted : (given : BackTable)
+      → OpensOver (map loaded_back slice) last given mid new steps_between steps_now
+      → RefusesAll (names ++ (last ∷ [])) old new steps_before steps_now atlas.NoMemory
+  last_wanted given k =
+      subst (λ (l : List (List ℕ)). RefusesAll l old new steps_before steps_now atlas.NoMemory)
+      (append-nil (names ++ (last ∷ [])))
+      (memory_wanted (names ++ (last ∷ [])) [] (items ++ (given ∷ [])) old new steps_before steps_now
+      (last_open given k))
