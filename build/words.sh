@@ -38,6 +38,7 @@ find_names_of_atlas() {
         build) find_tables_behind $# 3 1 ;;
         check | report) find_tables_behind $# 2 1 ;;
         premises) find_tables_behind $# 2 0 ;;
+        verdict) find_tables_behind $# 3 0 ;;
         line | play) ! is_side "${4-}" || find_tables_behind $# 4 1 ;;
         why) ! is_side "${4-}" || find_tables_behind $# 4 0 ;;
         query | each) [ $# -ne 3 ] || reads=(1) ;;

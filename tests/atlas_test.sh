@@ -33,6 +33,8 @@ test_no_file_stands_twice_among_the_names_of_atlas() {
     refused_by_atlas play one FEN white two two
     refused_by_atlas why one FEN white link
     refused_by_atlas why one FEN black two ./two
+    refused_by_atlas verdict one FEN link
+    refused_by_atlas verdict one FEN two ./two
     refused_by_atlas premises A ./A
     refused_by_atlas premises A one two link
     is "$(cat "$FAKE_LOG")" "" "checks: the program is not built for this"
@@ -58,7 +60,8 @@ test_names_that_are_none_are_the_program_s() {
         run "$toy/atlas" $words
         is "$status $out" "7 ${words// /$'\n'}" "the answer to $words"
     done
-    for words in 'why A FEN' 'why A A white' 'why A FEN blue A' 'why A FEN white one' premises\ A 'premises A one'; do
+    for words in 'why A FEN' 'why A A white' 'why A FEN blue A' 'why A FEN white one' 'verdict A FEN' \
+        'verdict A A one' premises\ A 'premises A one'; do
         # shellcheck disable=SC2086
         run "$toy/atlas" $words
         is "$status $out" "4 told" "the answer to $words"

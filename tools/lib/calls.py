@@ -42,6 +42,8 @@ COMMANDS = {"freezer": [
     ("why", "L.t", MATE_IN_TWO, "black", "N.t"),
     ("why", "A.t", MATE_IN_TWO, "black"),
     ("premises", "E", "N.t"),
+    ("verdict", "L.t", MATE_IN_TWO, "N.t"),
+    ("verdict", "A.t", MATE_IN_TWO),
 ]}
 # What a session reads: an illegal move, and then a legal one.
 TYPED = b"b6b7\na8b8\n"

@@ -1,5 +1,5 @@
 //! Does over real files what its arguments say: builds a plain table, builds and checks tables over
-//! several others, asks them, plays by them, and tells what exit lines rest on. An argument has the
+//! several others, asks them, plays by them, and tells what exit lines rest on and what is shown of positions. An argument has the
 //! words of one command with `; ` between them, and behind what the command says stands its status.
 #![tactic(auto)]
 
@@ -11,6 +11,7 @@ use frz_commands_atlas::{run_build, run_check, run_each};
 use frz_commands_journeys::{run_line as play_line, run_play};
 use frz_commands_premises::run_premises;
 use frz_commands_table::build;
+use frz_commands_verdict::run_verdict;
 use frz_commands_why::run_why;
 use frz_prelude::tell;
 use frz_steps::Steps;
@@ -58,6 +59,7 @@ fn run_command<S: Store, I: Source, O: Sink, L: Ledger>(
         "line" => play_line(alloc, rest, store, out, steps),
         "play" => run_play(alloc, rest, store, input, out, steps),
         "premises" => run_premises(alloc, rest, store, out, steps),
+        "verdict" => run_verdict(alloc, rest, store, out, steps),
         "why" => run_why(alloc, rest, store, out, steps),
         "query" => tell(query_kind(alloc, FileKind::Atlas, rest, store), out),
         _ => refuse(Refusal::NoCommand, out),

@@ -6,6 +6,7 @@ mod TableFound
 mod ExactTables
 mod Several
 mod Behind
+mod OneMore
 mod StillHeld
 mod AtlasBuilt
 mod AtlasChecked

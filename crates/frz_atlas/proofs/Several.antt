@@ -20,7 +20,7 @@ use Rattle.frz_atlas.proofs.ExactTables.{kept_backs}
 use Rattle.frz_atlas.proofs.OwnKinds.{held_by, may_be_held}
 
 -- names of two lists may hold what each list may
-may_hold_both : (files : Option Files) (names more : List (List ℕ))
+pub may_hold_both : (files : Option Files) (names more : List (List ℕ))
     (helds others : List (Option (List ℕ))) → MayHoldAll files names helds
     → MayHoldAll files more others → MayHoldAll files (names ++ more) (helds ++ others)
 unfolding MayHoldAll
@@ -66,7 +66,7 @@ within_more helds rest held old mid new steps_before steps_between steps_now h k
   calls = omega (arith, h.calls, k.calls, sum_one calls_of helds held rest);
 }
 
-within_all : (helds rest : List (Option (List ℕ))) (old new : StoreTold)
+pub within_all : (helds rest : List (Option (List ℕ))) (old new : StoreTold)
     (steps_before steps_now : ℕ) → WithinAll helds old new steps_before steps_now
     → WithinAll (helds ++ rest) old new steps_before steps_now
 within_all helds rest old new steps_before steps_now h = record {
@@ -152,7 +152,7 @@ module _ (Good : IsGood) (names : List (List ℕ)) (backs : List BackTable) (old
     (steps_before steps_between steps_now : ℕ) (name : List ℕ)
     (h : AllFound Good names backs old mid steps_before steps_between)
     (same : mid.files ≡ old.files) where
-  one_more : (given : BackTable)
+  pub one_more : (given : BackTable)
       → OneFound Good (map loaded_back backs) name given mid new steps_between steps_now
       → AllFound Good (names ++ (name ∷ [])) (backs ++ (given ∷ [])) old new steps_before steps_now
   one_more given k =
@@ -185,7 +185,7 @@ module _ (Good : IsGood) (names : List (List ℕ)) (backs : List BackTable) (old
       }
 
   -- what the name holds, and whatever comes behind it, is refused
-  none_more : (Refuses : List (Option (List ℕ)) → Type 0) (more : List (List ℕ))
+  pub none_more : (Refuses : List (Option (List ℕ)) → Type 0) (more : List (List ℕ))
       (held : Option (List ℕ)) → MayHold mid.files name held
       → WithinOne held mid new steps_between steps_now
       → ((rest : List (Option (List ℕ))) → Refuses (all_held h.tables ++ (held ∷ rest)))

@@ -17,5 +17,5 @@ pub use checking::{Checked, check_atlas};
 pub use fault::{AtlasFault, BackFault};
 pub use kinds::open_own;
 pub use loading::{load_behind, load_own};
-pub use opening::{open_behind, open_over};
+pub use opening::{open_all, open_behind, open_over};
 pub use reading::{LoadedAtlas, load_atlas};

@@ -1,5 +1,5 @@
 //! Opens, loads and checks the tables behind another from the left, each over those before it.
-ghost use Rattle.std.specs.Prelude.{◌≤◌, ◌+◌, map, IfOk, IfErr};
+ghost use Rattle.std.specs.Prelude.{◌≤◌, ◌+◌, ◌++◌, ◌∷◌, [], map, IfOk, IfErr};
 ghost use Rattle.std.specs.String.{string_bytes};
 ghost use Rattle.frz_check.specs.EntryCodes.{of_side};
 ghost use Rattle.frz_store.specs.Told.{store_of, StoreQuiet};
@@ -108,4 +108,32 @@ pub fn open_behind<S: Store, L: Ledger>(
         backs.push(back)?;
     }
     Ok(backs)
+}
+
+/// Opens and checks the tables of these names from the left, and then the table `last` over all of
+/// them, which is given behind them. Stops at the first that is refused or wrong, and names its
+/// place, from 0.
+pub fn open_all<S: Store, L: Ledger>(
+    alloc: Global,
+    store: &mut S,
+    names: &[String],
+    last: &str,
+    steps: &mut Steps<L>,
+) -> Result<Vec<BackTable>, AtlasFault>
+    ensures opened { IfOk result (λ tables. OpensAll (map string_bytes names.now ++ last.now ∷ [])
+        tables.items (store_of S.Store store.old) (store_of S.Store store.new)
+        steps.old steps.new) }
+    ensures refused { IfErr result (RefusesAll (map string_bytes names.now ++ last.now ∷ [])
+        (store_of S.Store store.old) (store_of S.Store store.new) steps.old steps.new) }
+    ensures quiet { StoreQuiet (store_of S.Store store.old) (store_of S.Store store.new) }
+    ensures later { steps.old ≤ steps.new }
+    ensures cause { HasAtlasCause result (store_of S.Store store.old) (store_of S.Store store.new) }
+{
+    let mut tables = open_behind(alloc, store, names, steps)?;
+    let table = match open_over(alloc, store, last, &tables, steps) {
+        Ok(table) => table,
+        Err(fault) => return Err(AtlasFault::of_back(tables.len(), fault)),
+    };
+    tables.push(table)?;
+    Ok(tables)
 }

@@ -10,5 +10,5 @@ mod names;
 pub use asked::{Asked, asked_names};
 pub use ending::end_at;
 pub use names::{
-    MOST_BACKS, build_names, different_names, has_twice, names_with_backs, table_names,
+    MOST_BACKS, build_names, different_names, has_twice, is_among, names_with_backs, table_names,
 };

@@ -6,9 +6,10 @@ use Rattle.frz_answer.proofs.Lemmas.{refused_lawful}
 use Rattle.frz_commands_atlas.proofs.Lemmas.{build_lawful, check_lawful, each_lawful, report_lawful, size_lawful}
 use Rattle.frz_commands_journeys.specs.Journeying.{line_words, play_words}
 use Rattle.frz_commands_premises.proofs.Lemmas.{premises_lawful}
+use Rattle.frz_commands_verdict.proofs.Lemmas.{verdict_lawful}
 use Rattle.frz_commands_why.specs.Asking.{why_words}
 use Rattle.frz_atlas_top.specs.declared.verb.Verb.{Verb}
-use Rattle.frz_atlas_top.specs.declared.verb.Verb.TheVariants.{Build, Check, Query, Each, Line, Play, Why, Premises, Report, Size}
+use Rattle.frz_atlas_top.specs.declared.verb.Verb.TheVariants.{Build, Check, Query, Each, Line, Play, Why, Verdict, Premises, Report, Size}
 use Rattle.frz_program.specs.Commands.{command_of}
 use Rattle.frz_atlas_top.specs.Verbs.{verb_of}
 use Rattle.frz_atlas_top.specs.Commands.{job_by, job_of}
@@ -26,6 +27,7 @@ module _ (line_lawful : (words : List (List ℕ)) → IsLawful (line_words words
   by_command (Some (Line, words)) = line_lawful words
   by_command (Some (Play, words)) = play_lawful words
   by_command (Some (Why, words)) = why_lawful words
+  by_command (Some (Verdict, words)) = verdict_lawful words
   by_command (Some (Premises, words)) = premises_lawful words
   by_command (Some (Report, words)) = report_lawful words
   by_command (Some (Size, words)) = size_lawful words

@@ -12,10 +12,11 @@ use Rattle.frz_commands_atlas.specs.Reporting.{report_words}
 use Rattle.frz_commands_atlas.specs.Sizing.{size_words}
 use Rattle.frz_commands_journeys.specs.Journeying.{line_words, play_words}
 use Rattle.frz_commands_premises.specs.Premising.{premises_words}
+use Rattle.frz_commands_verdict.specs.Verdicting.{verdict_words}
 use Rattle.frz_commands_why.specs.Asking.{why_words}
 use Rattle.frz_program.specs.Commands.{command_of}
 use Rattle.frz_atlas_top.specs.declared.verb.Verb.{Verb}
-use Rattle.frz_atlas_top.specs.declared.verb.Verb.TheVariants.{Build, Check, Query, Each, Line, Play, Why, Premises, Report, Size}
+use Rattle.frz_atlas_top.specs.declared.verb.Verb.TheVariants.{Build, Check, Query, Each, Line, Play, Why, Verdict, Premises, Report, Size}
 use Rattle.frz_atlas_top.specs.Verbs.{verb_of}
 
 -- the job of a command and the words behind it
@@ -27,6 +28,7 @@ job_by (Some (Each, words)) = each_words words
 job_by (Some (Line, words)) = line_words words
 job_by (Some (Play, words)) = play_words words
 job_by (Some (Why, words)) = why_words words
+job_by (Some (Verdict, words)) = verdict_words words
 job_by (Some (Premises, words)) = premises_words words
 job_by (Some (Report, words)) = report_words words
 job_by (Some (Size, words)) = size_words words

@@ -13,6 +13,7 @@ use frz_commands_atlas::{run_build, run_check, run_each, run_report, run_size};
 use frz_commands_journeys::laws::{one_line_answer, one_play_answer};
 use frz_commands_journeys::{run_line, run_play};
 use frz_commands_premises::run_premises;
+use frz_commands_verdict::run_verdict;
 use frz_commands_why::laws::why_lawful;
 use frz_commands_why::run_why;
 use frz_prelude::tell;
@@ -48,6 +49,7 @@ fn run<S: Store, I: Source, O: Sink, L: Ledger>(
         Some((Verb::Line, rest)) => run_line(alloc, rest, store, out, steps),
         Some((Verb::Play, rest)) => run_play(alloc, rest, store, input, out, steps),
         Some((Verb::Why, rest)) => run_why(alloc, rest, store, out, steps),
+        Some((Verb::Verdict, rest)) => run_verdict(alloc, rest, store, out, steps),
         Some((Verb::Premises, rest)) => run_premises(alloc, rest, store, out, steps),
         Some((Verb::Report, rest)) => run_report(alloc, rest, store, out, steps),
         Some((Verb::Size, rest)) => run_size(alloc, rest, store, out),

@@ -7,5 +7,6 @@ pub mod ExactOver
 pub mod Codes
 pub use Rattle.frz_chain.specs.Books
 pub use Rattle.frz_chain.specs.Building
+pub use Rattle.frz_chain.specs.ChainPlies
 pub use Rattle.frz_chain.specs.FileOn
 pub use Rattle.frz_chain.specs.declared.back.BackTable

@@ -50,7 +50,7 @@ count_text text rules links read =
     count_by_bases (exit_numbers_of text) (bases_of rules links)
     (as_many_lines text rules read ∙ sym (many_bases rules links))
 
-count_behind : (before : List Link) (tables : List TextLink) → All IsReadAs tables →
+pub count_behind : (before : List Link) (tables : List TextLink) → All IsReadAs tables →
     belief_among (behind_lines before tables) ≡ believed_over before (links_in tables)
 unfolding behind_lines believed_over
 count_behind before [] read = refl

@@ -45,7 +45,7 @@ lines_mean text rules links read exact = record {
 }
 
 -- and of each table's text, with the tables before it
-behind_mean : (before : List Link) (tables : List TextLink) → All IsReadAs tables →
+pub behind_mean : (before : List Link) (tables : List TextLink) → All IsReadAs tables →
     AreExact (before ++ links_in tables) → AllLinesMean before tables
 unfolding AllLinesMean
 behind_mean before [] read exact = tt

@@ -40,8 +40,8 @@ writable_text text rules links few =
     writable_by (length links) few (exit_numbers_of text) (bases_of rules links)
     (all_tellable rules links (length links) refl)
 
-writable_behind : (before : List Link) (tables : List TextLink) →
-    length before + length tables ≤ MOST_BACKS → All IsWritable (behind_lines before tables)
+pub writable_behind : (before : List Link) (tables : List TextLink) →
+    length before + length tables ≤ MOST_BACKS + 1 → All IsWritable (behind_lines before tables)
 unfolding behind_lines
 writable_behind before [] few = All-nil IsWritable
 writable_behind before (t ∷ tables) few =

@@ -1,5 +1,5 @@
 -- The text of each line that `premises` writes.
-use Rattle.std.specs.Prelude.{ℕ, ◌+◌, ◌<◌, List, ◌++◌, codes, decimal, ⊤}
+use Rattle.std.specs.Prelude.{ℕ, ◌+◌, ◌≤◌, List, ◌++◌, codes, decimal, ⊤}
 use Rattle.frz_fen.specs.Writing.{fen_text}
 use Rattle.frz_bound_lines.specs.BoundLines.{side_name}
 use Rattle.frz_premises.specs.declared.basis.Basis.{Basis}
@@ -36,10 +36,10 @@ line_text (Exit number rests) = (codes "line " ++ decimal number) ++ basis_words
 line_text (Believed count) = codes "believed " ++ decimal count ++ codes "\n"
 line_text (Side side strong) = side_name side ++ strength_words strong
 
--- what the line tells can be written: a table is one of the most that a command takes, and an exit
--- is a valid position
+-- what the line tells can be written: a table is one of the most that a command takes, or the one
+-- behind them all, and an exit is a valid position
 abbrev pub IsWritable : Line → Type 0
-IsWritable (Back place) = place < MOST_BACKS
+IsWritable (Back place) = place ≤ MOST_BACKS
 IsWritable Rules = ⊤
 IsWritable (Exit number rests) = IsTellable MOST_BACKS rests
 IsWritable (Believed count) = ⊤

@@ -8,5 +8,6 @@ mod lines;
 mod premises;
 
 pub use line::Line;
-pub use lines::premise_lines;
+pub use line_texts::write_one;
+pub use lines::{count_beliefs, lines_behind, premise_lines, tells_belief};
 pub use premises::run_premises;

@@ -73,7 +73,7 @@ fn write_side<O: Sink>(side: Colour, strength: Strength, out: &mut O) -> Result<
 }
 
 /// Writes one line.
-fn write_one<O: Sink>(line: Line, out: &mut O) -> Result<(), Failed>
+pub fn write_one<O: Sink>(line: Line, out: &mut O) -> Result<(), Failed>
     requires { IsWritable line }
     ensures { WroteText (line_text line) result
         (sink_of O.Sink out.old) (sink_of O.Sink out.new) }

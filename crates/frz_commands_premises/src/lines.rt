@@ -83,8 +83,26 @@ fn add_behind<L: Ledger>(
     Ok(())
 }
 
+/// The lines of these tables: of each a line that names it by its place, and a line for each exit
+/// line of its text, with the tables before it. The moves of each number are listed once.
+pub fn lines_behind<L: Ledger>(
+    alloc: Global,
+    tables: &[BackTable],
+    steps: &mut Steps<L>,
+) -> Result<Vec<Line>, AllocError>
+    ensures told { IfOk result (λ lines. lines.items
+        ≡ behind_lines [] (map text_link_loaded tables.now)) }
+    ensures steps { steps.new
+        ≤ steps.old + sum_by (λ back. size_of back.table.rules.groups) tables.now }
+    ensures later { steps.old ≤ steps.new }
+{
+    let mut lines = Vec::new(alloc);
+    add_behind(alloc, &mut lines, tables, steps)?;
+    Ok(lines)
+}
+
 /// Does the line tell of an exit line that is believed?
-fn tells_belief(line: &Line) -> bool
+pub fn tells_belief(line: &Line) -> bool
     ensures { result ≡ words.tells_belief line.now }
 {
     match line {
@@ -94,7 +112,7 @@ fn tells_belief(line: &Line) -> bool
 }
 
 /// How many of the lines tell of an exit line that is believed.
-fn count_beliefs(lines: &[Line]) -> usize
+pub fn count_beliefs(lines: &[Line]) -> usize
     ensures { result ≡ belief_among lines.now }
 {
     lines.iter().filter(|line| tells_belief(line)).count()

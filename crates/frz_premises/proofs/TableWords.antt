@@ -98,7 +98,7 @@ none_passes_at_place test (x ∷ lines) zero line h e =
 none_passes_at_place test (x ∷ lines) (suc i) line h e =
     none_passes_at_place test lines i line (or_parts (test x) (list_any test lines) h).1 e
 
-numbered_by : (leans : Bool) (rules : RuleLines) (before : List Back) (side : Colour) →
+pub numbered_by : (leans : Bool) (rules : RuleLines) (before : List Back) (side : Colour) →
     not (leans || list_any (λ line. is_uncounted line.value side) rules.exits) ≡ true →
     AllNumbered (game_of rules (value_over leans rules before)) side
 numbered_by true rules before side h = absurd (cc)

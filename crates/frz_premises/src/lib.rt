@@ -14,5 +14,5 @@ mod walk;
 
 pub use basis::{Basis, believed};
 pub use premises::premises_of;
-pub use saying::says_as_much;
+pub use saying::{counts_wins, says_as_much};
 pub use sides::{ExitValues, Strength, exit_values, strength_of};

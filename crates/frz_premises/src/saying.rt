@@ -44,7 +44,7 @@ fn leaves_uncounted(lines: &[Exit], side: Colour) -> bool
 }
 
 /// Are the plies of the side's wins in the table plies to mate?
-fn counts_wins(back: &BackTable, side: Colour) -> bool
+pub fn counts_wins(back: &BackTable, side: Colour) -> bool
     ensures { result ≡ words.counts_wins (link_loaded back.now) side }
 {
     !(leans(back.table.kind()) || leaves_uncounted(&back.table.rules().exits, side))

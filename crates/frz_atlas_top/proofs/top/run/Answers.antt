@@ -51,6 +51,13 @@ returns-in-Some-Why-default-clause-ran g c =
     c.in-Some-Why-default.ensures)
     (c.run_why.ensures.ran (source_of g.I.Source c.args.input.now))
 
+pub returns-in-Some-Verdict-default-clause-ran :
+    goal.returns-in-Some-Verdict-default-clause-ran
+returns-in-Some-Verdict-default-clause-ran g c =
+    as_command _ _ _ _ _ (rw c.in-Some-Verdict-default.field-0-0-is at
+    c.in-Some-Verdict-default.ensures)
+    (c.run_verdict.ensures.ran (source_of g.I.Source c.args.input.now))
+
 pub returns-in-Some-Premises-default-clause-ran :
     goal.returns-in-Some-Premises-default-clause-ran
 returns-in-Some-Premises-default-clause-ran g c =

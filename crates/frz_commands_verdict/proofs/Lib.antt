@@ -1,0 +1,12 @@
+pub mod Lemmas
+mod WordsGiven
+mod LastTable
+mod TrueVerdicts
+mod Meaning
+mod Once
+mod Lawful
+mod NamesHold
+mod Running
+mod Found
+mod Lines
+mod Placed

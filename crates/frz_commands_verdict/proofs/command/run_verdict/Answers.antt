@@ -1,0 +1,17 @@
+use Rattle.std.specs.Prelude.{map}
+use Rattle.std.specs.String.{string_bytes}
+use Rattle.frz_store.specs.Told.{store_of}
+use Rattle.frz_commands_verdict.specs.Verdicting.{verdict_named}
+use Rattle.frz_commands_verdict.proofs.WordsGiven.{ran_given, ran_ungiven}
+use Rattle.frz_commands_verdict.proofs.command.run_verdict.Goals as goal
+
+pub returns-in-Ok-clause-ran : goal.returns-in-Ok-clause-ran
+returns-in-Ok-clause-ran g c = λ input.
+    ran_given verdict_named (map string_bytes c.args.words.now) _ _ _ _ c.in-Ok.ensures.named
+    (c.verdict_from.ensures.ran input)
+
+pub returns-in-Err-clause-ran : goal.returns-in-Err-clause-ran
+returns-in-Err-clause-ran g c = λ input.
+    ran_ungiven verdict_named (map string_bytes c.args.words.now) _ _ _ c.in-Err.why
+    c.in-Err.ensures.refused
+    (c.refuse.ensures (store_of g.S.Store c.args.store.now) input _)

@@ -1,0 +1,9 @@
+-- The command `verdict` of the program `atlas`: the definitions that its contracts cite.
+pub mod Words
+pub mod Verdicts
+pub mod Texts
+pub mod Finding
+pub mod Answers
+pub mod VerdictMeans
+pub mod Verdicting
+pub mod Ending

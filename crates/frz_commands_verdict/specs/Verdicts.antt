@@ -1,0 +1,38 @@
+-- The verdict on a position, by the codes of both sides in a table.
+use Rattle.std.specs.Prelude.{ℕ, Bool, ◌==◌, ◌-◌, ◌/◌, slice_index, if◌then◌else◌}
+use Rattle.frz_board.specs.declared.man.Colour.{Colour}
+use Rattle.frz_board.specs.declared.man.Colour.TheVariants.{White, Black}
+use Rattle.frz_board.specs.Boards.{Board}
+use Rattle.frz_index.specs.Members.{Num}
+use Rattle.frz_arena.specs.Codes.{is_win}
+use Rattle.frz_backs.specs.ChainPlies.{back_codes}
+use Rattle.frz_backs.specs.Links.{Link}
+use Rattle.frz_premises.specs.Saying.{counts_wins}
+use Rattle.frz_commands_verdict.specs.declared.verdict.Verdict.{Verdict}
+use Rattle.frz_commands_verdict.specs.declared.verdict.Verdict.TheVariants.{MatesWithin, Wins, Draw, DoesNotLose, NotShown}
+
+-- by the code of a win, whose plies count to the mate or do not
+abbrev pub won : Colour → (code : ℕ) → (counts : Bool) → Verdict
+won side code counts = if counts then MatesWithin side ((code - 2) / 2) else Wins side
+
+-- by codes of which neither is that of a win: 1 is the code of a hold
+abbrev pub held : (white black : ℕ) → Verdict
+held white black =
+    if white == 1 then (if black == 1 then Draw else DoesNotLose White) else
+    (if black == 1 then DoesNotLose Black else NotShown)
+
+-- by the codes of both sides; two wins contradict each other, and show nothing
+abbrev pub verdict_by : (white black : ℕ) → (white_counts black_counts : Bool) → Verdict
+verdict_by white black white_counts black_counts =
+    if is_win white then (if is_win black then NotShown else won White white white_counts) else
+    (if is_win black then won Black black black_counts else held white black)
+
+-- the code of a side at a position of the table's set
+abbrev pub code_at : Link → Colour → Board → ℕ
+code_at own side p = slice_index (back_codes own.back side) (Num own.rules.groups p)
+
+-- the plies of a win are told where those of all wins of the side are plies to mate
+abbrev pub verdict_at : Link → Board → Verdict
+verdict_at own p =
+    verdict_by (code_at own White p) (code_at own Black p) (counts_wins own White)
+    (counts_wins own Black)

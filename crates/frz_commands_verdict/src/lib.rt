@@ -1,0 +1,12 @@
+//! The command `verdict` of the program `atlas`: what is shown of a position in chess, and what is
+//! believed for it.
+#![tactic(auto)]
+
+mod command;
+mod finding;
+mod names;
+mod texts;
+mod verdict;
+
+pub use command::run_verdict;
+pub use verdict::Verdict;
