@@ -1,9 +1,8 @@
 -- The planes of all configurations, as sets of numbers.
-use Rattle.std.proofs.Common.{◌≡◌, ◌↔◌, ◌⊎◌, ◌∙◌, ◌<◌, ◌||◌, ℕ, Bool, true, false, List, inl, inr, refl, ap, sym, subst}
+use Rattle.std.proofs.Common.{◌≡◌, ◌↔◌, ◌⊎◌, ◌<◌, ◌||◌, ℕ, true, List, inl, inr, refl, ap, sym, subst}
 use Rattle.std.proofs.lemmas.Bool.{cases_Bool}
 use Rattle.frz_planes.specs.Planes.{IsPlaneOf, has_pair}
-use Rattle.frz_plane_game.specs.Spots.{AreSpots, HasNumbers, HaveNumbers, IsSpot, Spot, Spots, has_spot, plane_at}
-use Rattle.frz_plane_solver.specs.Walks.{IsIn}
+use Rattle.frz_plane_game.specs.Spots.{AreSpots, HaveNumbers, Spot, Spots, has_spot, plane_at}
 use Rattle.frz_plane_solver.proofs.Numbers.{numbers_joined, same_numbers}
 
 -- a number is in the planes of P exactly where P holds
@@ -29,8 +28,7 @@ pub pair_found : (spots : Spots) (planes : List (List ℕ)) (P : ℕ → Type 0)
     has_pair (plane_at planes c) a b ≡ true → (i : ℕ) × (i < spots.numbers) × P i
 pair_found spots planes P have c a b inside m n there =
     let spot = (have c inside).only a b m n there in
-    let k = spot.number in
-    (
+    let k = spot.number in (
       k,
       spot.inside,
       ((have c inside).there k spot.inside (ap (λ (s : Spot). s.configuration) spot.here)).0

@@ -1,8 +1,7 @@
 -- Where one ply leads, for the side and for its opponent.
-use Rattle.std.proofs.Common.{◌≡◌, ◌≢◌, ◌↔◌, ◌⊎◌, ◌∙◌, ℕ, Bool, true, false, not, cond, [], ◌∷◌, List, inl, inr, refl, ap, sym, subst, arith}
+use Rattle.std.proofs.Common.{◌≡◌, ◌↔◌, ◌⊎◌, ◌∙◌, ℕ, Bool, true, false, not, cond, List, inl, inr, refl, ap, sym, subst, arith}
 use Rattle.std.specs.Prelude.{⊤}
 use Rattle.std.specs.Bool.{IsTrue}
-use Rattle.std.specs.List.{Contains}
 use Rattle.std.proofs.lemmas.Bool.{cases_Bool, cases_lt}
 use Rattle.frz_board.specs.declared.man.Colour.{Colour}
 use Rattle.frz_board.specs.declared.man.Colour.TheVariants.{White, Black}
@@ -41,7 +40,7 @@ pub leads_or_not : (arena : Arena Step ℕ Value) (spots : Spots) (planes : List
     LeadsInto arena spots planes side exits x ⊎ (LeadsInto arena spots planes side exits x → ⊥)
 leads_or_not arena spots planes side exits (Inside k) =
     elim (cases_Bool (has_spot planes (spots.at k)))
-        [ inl is_so ↦ inl is_so | inr is_not ↦ inr (λ is_so. cc) ]
+    [ inl is_so ↦ inl is_so | inr is_not ↦ inr (λ is_so. cc) ]
 leads_or_not arena spots planes side (Wins n) (Outside v) =
     elim (good_or_not (arena.class v side)) [
       | inl good ↦ elim (cases_lt n (arena.lag v)) [
@@ -99,8 +98,10 @@ other_bad : (arena : Arena Step ℕ Value) (size : ℕ) → IsFinite arena size 
     (L : Next ℕ Value → Type 0) →
     SomeMove arena false i (λ x. IsTrue true ↔ L x) ↔ MovesToBad arena side L i
 other_bad arena size finite m side i turn same L = (
-  λ s. inl (mover_goes arena size finite m (other_of side) i turn same s.0 s.1,
-      (s.0, s.1, s.2.0 refl)),
+  λ s. inl (
+    mover_goes arena size finite m (other_of side) i turn same s.0 s.1,
+    (s.0, s.1, s.2.0 refl),
+  ),
   λ w. elim w [
     | inl w ↦ (w.1.0, w.1.1, ((λ _. w.1.2), λ _. refl))
     | inr w ↦ absurd (other_differs side (sym (going_is m (arena.node i) side turn w.0 ∙ same)))
@@ -118,14 +119,14 @@ other_good : (arena : Arena Step ℕ Value) (size : ℕ) → IsFinite arena size
     EachMove arena false i L ↔ MovesToGood arena side L i
 other_good arena size finite m side i turn same L either = (
   λ e. (
-    let each : (a : Arm Step ℕ Value) → IsArm arena i a → L a.next = λ a arm.
-    elim (either a.next)
-        [ inl l ↦ l | inr is_not ↦ absurd (e.1 (a, arm, refuted (L a.next) is_not)) ] in
-    inr (
-      mover_goes arena size finite m (other_of side) i turn same e.0.0 e.0.1,
-      (e.0.0, e.0.1, each e.0.0 e.0.1),
-      each,
-    )),
+      let each : (a : Arm Step ℕ Value) → IsArm arena i a → L a.next = λ a arm.
+      elim (either a.next)
+      [ inl l ↦ l | inr is_not ↦ absurd (e.1 (a, arm, refuted (L a.next) is_not)) ] in
+      inr (
+        mover_goes arena size finite m (other_of side) i turn same e.0.0 e.0.1,
+        (e.0.0, e.0.1, each e.0.0 e.0.1),
+        each,
+      )),
   λ w. elim w [
     | inl w ↦ absurd (other_differs side (sym (going_is m (arena.node i) side turn w.0 ∙ same)))
     | inr w ↦ ((w.1.0, w.1.1, tt), λ s. (let f : false ≡ true = s.2.1 (w.2 s.0 s.1) in cc))
@@ -138,18 +139,20 @@ own_bad : (arena : Arena Step ℕ Value) (size : ℕ) → IsFinite arena size �
     EachMove arena true i L ↔ MovesToBad arena side L i
 own_bad arena size finite m side i turn same L either = (
   λ e. (
-    let each : (a : Arm Step ℕ Value) → IsArm arena i a → a.free ≡ true → L a.next = λ a arm free.
-    elim (either a.next)
-        [ inl l ↦ l | inr is_not ↦ absurd (e.1 (a, arm, free, refuted (L a.next) is_not)) ] in
-    inr (
-      mover_goes arena size finite m side i turn same e.0.0 e.0.1,
-      (e.0.0, e.0.1, e.0.2, each e.0.0 e.0.1 e.0.2),
-      each,
-    )),
+      let each : (a : Arm Step ℕ Value) → IsArm arena i a → a.free ≡ true → L a.next = λ a arm free.
+      elim (either a.next)
+      [ inl l ↦ l | inr is_not ↦ absurd (e.1 (a, arm, free, refuted (L a.next) is_not)) ] in
+      inr (
+        mover_goes arena size finite m side i turn same e.0.0 e.0.1,
+        (e.0.0, e.0.1, e.0.2, each e.0.0 e.0.1 e.0.2),
+        each,
+      )),
   λ w. elim w [
     | inl w ↦ absurd (other_differs side (going_is m (arena.node i) (other_of side) turn w.0 ∙ same))
-    | inr w ↦ ((w.1.0, w.1.1, w.1.2, tt),
-        λ s. (let f : false ≡ true = s.3.1 (w.2 s.0 s.1 s.2) in cc))
+    | inr w ↦ (
+      (w.1.0, w.1.1, w.1.2, tt),
+      λ s. (let f : false ≡ true = s.3.1 (w.2 s.0 s.1 s.2) in cc),
+    )
   ],
 )
 

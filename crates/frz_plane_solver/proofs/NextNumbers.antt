@@ -1,5 +1,5 @@
 -- What one ply more decides, as planes.
-use Rattle.std.proofs.Common.{◌≡◌, ◌≢◌, ◌↔◌, ◌⊎◌, ◌∙◌, ◌<◌, ◌+◌, ◌&&◌, if◌then◌else◌, not, ℕ, zero, suc, Bool, true, false, List, [], ◌∷◌, inl, inr, refl, ap, sym, subst, arith}
+use Rattle.std.proofs.Common.{◌≡◌, ◌↔◌, ◌⊎◌, ◌∙◌, ◌<◌, ◌+◌, ◌&&◌, if◌then◌else◌, not, ℕ, suc, Bool, true, false, List, [], ◌∷◌, inl, inr, refl, ap, sym, subst, arith}
 use Rattle.std.specs.Prelude.{⊤}
 use Rattle.std.specs.List.{Contains}
 use Rattle.frz_board.specs.declared.man.Colour.{Colour}
@@ -30,8 +30,11 @@ moves_same arena side true L M i f (inr w) =
     inr (w.0, (w.1.0, w.1.1, f w.1.0 w.1.1 w.1.2), λ a arm. f a arm (w.2 a arm))
 moves_same arena side false L M i f (inl w) = inl (w.0, (w.1.0, w.1.1, f w.1.0 w.1.1 w.1.2))
 moves_same arena side false L M i f (inr w) =
-    inr (w.0, (w.1.0, w.1.1, w.1.2, f w.1.0 w.1.1 w.1.3),
-      λ a arm free. f a arm (w.2 a arm free))
+    inr (
+      w.0,
+      (w.1.0, w.1.1, w.1.2, f w.1.0 w.1.1 w.1.3),
+      λ a arm free. f a arm (w.2 a arm free),
+    )
 
 abbrev pub LeadsNext : Arena Step ℕ Value → Colour → Bool → ℕ → Next ℕ Value → Type 0
 LeadsNext arena side win n =
@@ -42,14 +45,16 @@ next_is : (arena : Arena Step ℕ Value) (side : Colour) (win : Bool) (n i : ℕ
     ↔ (Decided arena side win n i ⊎ MovesTo arena side win (LeadsNext arena side win n) i)
 next_is arena side true n i =
     let more : suc n ≡ n + 1 = omega arith in
-    let back : n + 1 ≡ suc n = omega arith in
-    (λ w. subst (λ z. WinsWithin arena side z i) back w,
-      λ w. subst (λ z. WinsWithin arena side z i) more w)
+    let back : n + 1 ≡ suc n = omega arith in (
+      λ w. subst (λ z. WinsWithin arena side z i) back w,
+      λ w. subst (λ z. WinsWithin arena side z i) more w,
+    )
 next_is arena side false n i =
     let more : suc n ≡ n + 1 = omega arith in
-    let back : n + 1 ≡ suc n = omega arith in
-    (λ w. subst (λ z. FailsWithin arena side z i) back w,
-      λ w. subst (λ z. FailsWithin arena side z i) more w)
+    let back : n + 1 ≡ suc n = omega arith in (
+      λ w. subst (λ z. FailsWithin arena side z i) back w,
+      λ w. subst (λ z. FailsWithin arena side z i) more w,
+    )
 
 decided_later : (arena : Arena Step ℕ Value) (side : Colour) (win : Bool) (k n i : ℕ) → k < n + 1 →
     Decided arena side win k i → Decided arena side win n i

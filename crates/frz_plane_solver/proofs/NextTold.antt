@@ -1,5 +1,5 @@
 -- The codes after a ply, and after the first.
-use Rattle.std.proofs.Common.{◌≡◌, ◌≢◌, ◌⊎◌, ◌∙◌, ◌<◌, ◌≤◌, ◌+◌, ◌*◌, ℕ, Bool, true, false, List, length, slice_index, inl, inr, refl, sym, subst, arith}
+use Rattle.std.proofs.Common.{◌≡◌, ◌⊎◌, ◌∙◌, ◌<◌, ◌≤◌, ◌+◌, ◌*◌, ℕ, Bool, true, false, List, length, slice_index, inl, inr, refl, sym, subst, arith}
 use Rattle.std.proofs.lemmas.Bool.{cases_lt}
 use Rattle.frz_board.specs.declared.man.Colour.{Colour}
 use Rattle.frz_arena.specs.declared.node.Node.{Node}
@@ -10,7 +10,7 @@ use Rattle.frz_arena.proofs.Lemmas.{broken_never_fails, broken_never_wins, fails
 use Rattle.frz_sweep.specs.Told.{AreTold, IsTold}
 use Rattle.frz_plane_game.specs.Spots.{AreSpots, HaveNumbers, Spots}
 use Rattle.frz_plane_solver.specs.Walks.{IsSolvedTo}
-use Rattle.frz_plane_solver.specs.Decided.{ArePut, Decided, DecidedAt, decided_code}
+use Rattle.frz_plane_solver.specs.Decided.{ArePut, Decided, DecidedAt}
 use Rattle.frz_plane_solver.proofs.AllNumbers.{told_by_planes}
 use Rattle.frz_plane_solver.proofs.Telling.{told_broken, told_failure, told_open, told_still, told_win}
 
@@ -67,24 +67,24 @@ ply_told arena size past side n old mid new told wins fails w0 w1 f0 f1 i =
           (λ f. absurd (broken_never_fails arena side (n + 1) i broken f))))
       | inl inside ↦ elim (at_or_not _ _ (DecidedAt arena side true (n + 1) i) (w0 i inside)
           (w1 i inside) (λ a. a.0) (λ a w. a.1 n (omega arith) w) (wins_at arena side n i)) [
-        | inl won ↦ (
-            let same = fails.kept i (λ d. never_both arena side (n + 1) (n + 1) i won.0 d.1.0)
-            ∙ wins.put i (inside, won) in
-            subst (IsTold arena side (n + 1 + 1) i) (sym same)
-            (told_win arena side (n + 1) i won.0 won.1))
-        | inr not_won ↦ elim (at_or_not _ _ (DecidedAt arena side false (n + 1) i) (f0 i inside)
-            (f1 i inside) (λ a. a.0) (λ a f. a.1 n (omega arith) f) (fails_at arena side n i)) [
-          | inl lost ↦
-              subst (IsTold arena side (n + 1 + 1) i) (sym (fails.put i (inside, lost)))
-              (told_failure arena side (n + 1) i lost.0 lost.1)
-          | inr not_lost ↦ (
-              let same = fails.kept i (λ d. not_lost d.1) ∙ wins.kept i (λ d. not_won d.1) in
-              subst (IsTold arena side (n + 1 + 1) i) (sym same)
-              (told_still arena side n i (slice_index old i) (told i)
-              (still_of _ _ _ (w0 i inside) (wins_at arena side n i) not_won)
-              (still_of _ _ _ (f0 i inside) (fails_at arena side n i) not_lost)))
-        ]
-      ]
+            | inl won ↦ (
+                let same = fails.kept i (λ d. never_both arena side (n + 1) (n + 1) i won.0 d.1.0)
+                ∙ wins.put i (inside, won) in
+                subst (IsTold arena side (n + 1 + 1) i) (sym same)
+                (told_win arena side (n + 1) i won.0 won.1))
+            | inr not_won ↦ elim (at_or_not _ _ (DecidedAt arena side false (n + 1) i) (f0 i inside)
+                (f1 i inside) (λ a. a.0) (λ a f. a.1 n (omega arith) f) (fails_at arena side n i)) [
+                  | inl lost ↦
+                      subst (IsTold arena side (n + 1 + 1) i) (sym (fails.put i (inside, lost)))
+                      (told_failure arena side (n + 1) i lost.0 lost.1)
+                  | inr not_lost ↦ (
+                      let same = fails.kept i (λ d. not_lost d.1) ∙ wins.kept i (λ d. not_won d.1) in
+                      subst (IsTold arena side (n + 1 + 1) i) (sym same)
+                      (told_still arena side n i (slice_index old i) (told i)
+                      (still_of _ _ _ (w0 i inside) (wins_at arena side n i) not_won)
+                      (still_of _ _ _ (f0 i inside) (fails_at arena side n i) not_lost)))
+                ]
+          ]
     ]
 
 broken_or_not : (n : Node) → (n ≡ Broken) ⊎ (n ≡ Broken → ⊥)

@@ -46,10 +46,10 @@ numbers_without spots are c p q r P Q one other plane = record {
       let is : has_pair r a b ≡ (has_pair p a b && not (has_pair q a b)) =
       plane a b (are.white i l) (are.black i l) in (
         λ t. (
-          let both = both_without (has_pair p a b) (has_pair q a b) (sym is ∙ t) in (
-            (one.there i l e).0 both.0,
-            λ k. (let is_so = (other.there i l e).1 k in let is_not = both.1 in cc),
-          )),
+            let both = both_without (has_pair p a b) (has_pair q a b) (sym is ∙ t) in (
+              (one.there i l e).0 both.0,
+              λ k. (let is_so = (other.there i l e).1 k in let is_not = both.1 in cc),
+            )),
         λ both. is ∙ without_both (has_pair p a b) (has_pair q a b) ((one.there i l e).1 both.0)
             (λ t. both.1 ((other.there i l e).0 t)),
       ));
@@ -79,9 +79,9 @@ numbers_joined spots are c p q r P Q one other plane = record {
       ));
   only = λ a b m n t. elim
       (either_of (has_pair p a b) (has_pair q a b) (sym (plane a b m n) ∙ t)) [
-    | inl x ↦ one.only a b m n x
-    | inr y ↦ other.only a b m n y
-  ];
+        | inl x ↦ one.only a b m n x
+        | inr y ↦ other.only a b m n y
+      ];
 }
 
 pub numbers_none : (spots : Spots) → AreSpots spots → (c : ℕ) (r : List ℕ) (P : ℕ → Type 0) →

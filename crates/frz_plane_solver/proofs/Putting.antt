@@ -1,10 +1,10 @@
 -- Codes put at the numbers of planes.
-use Rattle.std.proofs.Common.{◌≡◌, ◌≢◌, ◌⊎◌, ◌∙◌, ◌<◌, ◌≤◌, ◌+◌, ◌*◌, ℕ, Bool, true, false, List, length, slice_index, slice_set, inl, inr, refl, ap, sym, subst, arith}
+use Rattle.std.proofs.Common.{◌≡◌, ◌⊎◌, ◌∙◌, ◌<◌, ◌≤◌, ◌+◌, ◌*◌, ℕ, true, List, length, slice_index, slice_set, inl, inr, refl, ap, sym, subst, arith}
 use Rattle.std.proofs.lemmas.Bool.{cases_Bool, cases_lt}
 use Rattle.std.proofs.lemmas.List.{get_or-set_same, get_or-set_other}
 use Rattle.std.specs.Prelude.{MatchOption, None, Option, Some, is_some}
 use Rattle.frz_planes.specs.Planes.{HasNoneFrom, IsNext, has_pair, pair_number}
-use Rattle.frz_plane_game.specs.Spots.{AreSpots, Spot, Spots, has_spot, plane_at}
+use Rattle.frz_plane_game.specs.Spots.{AreSpots, Spot, Spots, plane_at}
 use Rattle.frz_plane_solver.specs.Decided.{ArePut}
 use Rattle.frz_plane_solver.specs.Walks.{IsIn}
 
@@ -89,13 +89,13 @@ settle_step spots are c plane code from a b k old codes next inside here room be
       | inl l ↦ inl (r.0, l)
       | inr l ↦ elim (cases_lt (pair_number (spots.at i).white (spots.at i).black)
           (pair_number a b)) [
-        | inl m ↦ (
-            let is_not = next.first (spots.at i).white (spots.at i).black (are.white i r.0.0)
-            (are.black i r.0.0) l m in
-            let is_so = r.0.2 in
-            absurd cc)
-        | inr m ↦ inr (same_here i r m)
-      ]
+            | inl m ↦ (
+                let is_not = next.first (spots.at i).white (spots.at i).black (are.white i r.0.0)
+                (are.black i r.0.0) l m in
+                let is_so = r.0.2 in
+                absurd cc)
+            | inr m ↦ inr (same_here i r m)
+          ]
     ])
     (λ i p. (p.0, (let l = p.1 in let f = next.from in omega arith)))
     (λ i e. subst (λ (z : ℕ). IsBefore spots c plane (64 * a + b + 1) z) (sym e)
@@ -161,16 +161,23 @@ settle_more spots planes c plane code old mid new is before here =
       | inl l ↦ inl (r.0, l)
       | inr l ↦ (
           let same : (spots.at i).configuration ≡ c = (let m = r.1 in omega arith) in
-          inr (r.0.0, same, rw is (subst
-          (λ (z : ℕ). has_pair (plane_at planes z) (spots.at i).white (spots.at i).black ≡ true) same
-          r.0.1)))
+          inr (
+            r.0.0,
+            same,
+            rw is (subst
+                (λ (z : ℕ). has_pair (plane_at planes z) (spots.at i).white (spots.at i).black ≡ true) same
+                r.0.1),
+          ))
     ])
     (λ i p. (p.0, (let l = p.1 in omega arith)))
     (λ i q. (
-      (q.0, subst
-          (λ (z : ℕ). has_pair (plane_at planes z) (spots.at i).white (spots.at i).black ≡ true)
-          (sym q.1)
-          (subst (λ (z : List ℕ). has_pair z (spots.at i).white (spots.at i).black ≡ true) is q.2)),
+      (
+        q.0,
+        subst
+            (λ (z : ℕ). has_pair (plane_at planes z) (spots.at i).white (spots.at i).black ≡ true)
+            (sym q.1)
+            (subst (λ (z : List ℕ). has_pair z (spots.at i).white (spots.at i).black ≡ true) is q.2),
+      ),
       (let e = q.1 in omega arith),
     ))
     before here

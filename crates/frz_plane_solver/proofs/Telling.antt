@@ -1,5 +1,5 @@
 -- What codes tell one ply on.
-use Rattle.std.proofs.Common.{◌≡◌, ◌≢◌, ◌⊎◌, ◌∙◌, ◌<◌, ◌≤◌, ◌+◌, ◌*◌, ◌↔◌, ℕ, true, false, List, length, slice_index, inl, inr, refl, ap, sym, subst, arith}
+use Rattle.std.proofs.Common.{◌≡◌, ◌<◌, ◌≤◌, ◌+◌, ◌*◌, ◌↔◌, ℕ, inl, inr, refl, subst, arith}
 use Rattle.std.proofs.lemmas.Bool.{cases_lt}
 use Rattle.std.proofs.lemmas.Bool.Decides.{nat_tests}
 use Rattle.frz_board.specs.declared.man.Colour.{Colour}
@@ -8,7 +8,7 @@ use Rattle.frz_arena.specs.Arena.{Arena}
 use Rattle.frz_arena.specs.Codes.{IsFailureWithin, IsWinWithin}
 use Rattle.frz_arena.specs.Plies.{FailsWithin, WinsWithin}
 use Rattle.frz_arena.proofs.Lemmas.{as_failure, as_win, broken_never_fails, broken_never_wins, fails_later, never_both, win_and_failure, wins_later}
-use Rattle.frz_sweep.specs.Told.{AreTold, IsTold}
+use Rattle.frz_sweep.specs.Told.{IsTold}
 use Rattle.frz_sweep.proofs.Lemmas.{no_failure, no_win}
 
 -- the code of a win within n plies, and no fewer

@@ -1,5 +1,5 @@
 -- What the solver by planes keeps from ply to ply.
-use Rattle.std.specs.Prelude.{◌≡◌, ◌+◌, ◌<◌, ℕ, Bool, true, false, List, length}
+use Rattle.std.specs.Prelude.{◌≡◌, ◌+◌, ◌<◌, ℕ, true, false, List, length}
 use Rattle.frz_board.specs.declared.man.Colour.{Colour}
 use Rattle.frz_arena.specs.Arena.{Arena}
 use Rattle.frz_sweep.specs.Told.{AreTold}

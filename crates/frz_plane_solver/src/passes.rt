@@ -91,6 +91,8 @@ pub fn solve<G: PlaneGame<L>, L: Ledger>(
     let mut won = empty_planes(alloc, many)?;
     let mut lost = empty_planes(alloc, many)?;
     let mut more = empty_planes(alloc, many)?;
-    solve_from_zero(game, side, &mut won, &mut lost, &mut more, &mut codes, steps);
+    solve_from_zero(
+        game, side, &mut won, &mut lost, &mut more, &mut codes, steps,
+    );
     Ok(codes)
 }

@@ -30,7 +30,11 @@ fn seeks(own: bool, win: bool) -> bool
 fn exits_of(win: bool, plies: u32) -> Exits
     ensures { result ≡ worth_of win plies }
 {
-    if win { Exits::Wins(plies) } else { Exits::Losses }
+    if win {
+        Exits::Wins(plies)
+    } else {
+        Exits::Losses
+    }
 }
 
 /// The numbers of the configuration at which the next ply leads into the target, whoever is to

@@ -1,7 +1,6 @@
-use Rattle.std.proofs.Common.{◌≡◌, ◌≤◌, ◌<◌, ◌+◌, ℕ}
-use Rattle.frz_arena.specs.declared.node.Node.TheVariants.{Broken}
+use Rattle.std.proofs.Common.{◌≤◌, ◌<◌, ℕ}
 use Rattle.frz_plane_game.specs.Spots.{HasNumbers, plane_at}
-use Rattle.frz_plane_solver.specs.Decided.{Decided, DecidedAt}
+use Rattle.frz_plane_solver.specs.Decided.{Decided}
 use Rattle.frz_plane_solver.proofs.fill.fill_first.Given as goal
 
 abbrev pub invariant-loop-c : goal.invariant-loop-c

@@ -1,7 +1,6 @@
-use Rattle.std.proofs.Common.{◌≡◌, ◌+◌, ℕ, List, arith}
-use Rattle.frz_arena.specs.declared.node.Node.TheVariants.{Broken}
+use Rattle.std.proofs.Common.{◌+◌, ℕ, List, arith}
 use Rattle.frz_plane_game.specs.Spots.{HasNumbers}
-use Rattle.frz_plane_solver.specs.Decided.{Decided, DecidedAt}
+use Rattle.frz_plane_solver.specs.Decided.{DecidedAt}
 use Rattle.frz_plane_solver.proofs.Filling.{filled_more}
 use Rattle.frz_plane_solver.proofs.fill.fill_next.Goals as goal
 

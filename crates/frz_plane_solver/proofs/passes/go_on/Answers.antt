@@ -1,4 +1,4 @@
-use Rattle.std.proofs.Common.{◌≡◌, ◌+◌, ℕ, inl, inr, slice_index, arith}
+use Rattle.std.proofs.Common.{◌+◌, inl, inr, slice_index, arith}
 use Rattle.frz_sweep.proofs.Lemmas.{few_plies, reached_codes}
 use Rattle.frz_plane_solver.proofs.passes.go_on.Goals as goal
 

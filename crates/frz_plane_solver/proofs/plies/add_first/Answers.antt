@@ -1,4 +1,4 @@
-use Rattle.std.proofs.Common.{◌≡◌, ◌<◌, ℕ, subst}
+use Rattle.std.proofs.Common.{◌<◌, ℕ, subst}
 use Rattle.frz_plane_solver.specs.Decided.{ArePut, Decided}
 use Rattle.frz_plane_solver.specs.Walks.{IsIn}
 use Rattle.frz_plane_solver.proofs.AllNumbers.{in_planes}

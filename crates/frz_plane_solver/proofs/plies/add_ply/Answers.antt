@@ -1,4 +1,4 @@
-use Rattle.std.proofs.Common.{◌≡◌, ◌+◌, ◌<◌, ℕ, true, false, subst, arith}
+use Rattle.std.proofs.Common.{◌+◌, ◌<◌, ℕ, subst, arith}
 use Rattle.frz_plane_solver.specs.Decided.{ArePut, Decided, DecidedAt}
 use Rattle.frz_plane_solver.specs.Walks.{IsIn}
 use Rattle.frz_plane_solver.proofs.AllNumbers.{all_joined, in_planes, pair_found, told_by_planes}

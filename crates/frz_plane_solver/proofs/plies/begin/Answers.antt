@@ -1,4 +1,4 @@
-use Rattle.std.proofs.Common.{◌≡◌, arith}
+use Rattle.std.proofs.Common.{arith}
 use Rattle.frz_arena.specs.Plies.{FailsWithin, WinsWithin}
 use Rattle.frz_plane_solver.proofs.AllNumbers.{told_by_planes}
 use Rattle.frz_plane_solver.proofs.NextTold.{first_told}

@@ -1,4 +1,4 @@
-use Rattle.std.proofs.Common.{◌≡◌, ◌∙◌, ◌+◌, ◌<◌, ℕ, List, sym, subst, arith}
+use Rattle.std.proofs.Common.{◌∙◌, subst, arith}
 use Rattle.frz_plane_game.specs.declared.target.Exits.{Exits}
 use Rattle.frz_plane_game.specs.Spots.{HasNumbers}
 use Rattle.frz_plane_game.specs.Targets.{LeadsInto}

@@ -1,4 +1,4 @@
-use Rattle.std.proofs.Common.{◌≡◌, ◌↔◌, ◌∙◌, ℕ, Bool, true, false, ap, sym, subst}
+use Rattle.std.proofs.Common.{◌↔◌, ◌∙◌, ℕ, true, false, ap, sym, subst}
 use Rattle.std.specs.Prelude.{⊤}
 use Rattle.std.specs.Bool.{IsTrue}
 use Rattle.frz_board.specs.Men.{same_colour}

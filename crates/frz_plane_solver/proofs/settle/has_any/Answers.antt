@@ -9,8 +9,7 @@ returns-then-is_some-clause-some c _ =
     let next = pair_there c.index-planes-c.result c.next_pair.result
     (sym c.is_some.ensures ∙ c.if-is_some.true) c.next_pair.ensures in
     let is = c.index-planes-c.is ∙ same_plane c.args.planes.now c.loop-c.c c.index-planes-c.result
-    (omega arith) in
-    (
+    (omega arith) in (
       c.loop-c.c,
       next.0,
       next.1,

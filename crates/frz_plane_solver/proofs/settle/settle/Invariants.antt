@@ -1,4 +1,4 @@
-use Rattle.std.proofs.Common.{◌≤◌, ◌-◌, ℕ}
+use Rattle.std.proofs.Common.{◌≤◌, ◌-◌}
 use Rattle.frz_plane_solver.specs.Decided.{ArePut}
 use Rattle.frz_plane_solver.proofs.Putting.{IsBefore}
 use Rattle.frz_plane_solver.proofs.settle.settle.Given as goal

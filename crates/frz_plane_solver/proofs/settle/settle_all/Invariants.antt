@@ -1,4 +1,3 @@
-use Rattle.std.proofs.Common.{ℕ}
 use Rattle.frz_plane_solver.specs.Decided.{ArePut}
 use Rattle.frz_plane_solver.proofs.Putting.{IsInBefore}
 use Rattle.frz_plane_solver.proofs.settle.settle_all.Given as goal
