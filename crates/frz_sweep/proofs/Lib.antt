@@ -2,3 +2,4 @@ mod NextTold
 mod Reached
 mod ExitLags
 mod BoundCodes
+pub mod Lemmas

@@ -1,0 +1,3 @@
+-- A game whose numbers are pairs in planes.
+pub mod Spots
+pub mod Targets

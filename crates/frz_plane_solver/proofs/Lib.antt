@@ -1,0 +1,8 @@
+mod Moves
+mod Numbers
+mod NextNumbers
+mod Filling
+mod Putting
+mod Telling
+mod AllNumbers
+mod NextTold

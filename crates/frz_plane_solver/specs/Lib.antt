@@ -1,0 +1,3 @@
+-- What the solver by planes keeps from ply to ply.
+pub mod Decided
+pub mod Walks

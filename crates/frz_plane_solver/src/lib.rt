@@ -1,0 +1,11 @@
+//! The solver by planes: forwards, ply by ply, all numbers of a configuration at once.
+#![tactic(auto)]
+
+mod fill;
+mod passes;
+mod plies;
+mod reach;
+mod room;
+mod settle;
+
+pub use passes::solve;

@@ -1,0 +1,70 @@
+//! Codes put at the numbers of planes.
+
+ghost use Rattle.std.specs.Prelude.{◌≡◌, ◌<◌, ℕ, length, true, false};
+ghost use Rattle.frz_planes.specs.Planes.{has_pair};
+ghost use Rattle.frz_plane_game.specs.Spots.{IsSpot, plane_at};
+ghost use Rattle.frz_plane_solver.specs.Decided.{ArePut};
+ghost use Rattle.frz_plane_solver.specs.Walks.{IsIn};
+
+use frz_plane_game::PlaneGame;
+use frz_planes::Plane;
+use std::sync::ledger::Ledger;
+
+/// Puts the code at each number of the plane of a configuration.
+fn settle<G: PlaneGame<L>, L: Ledger>(
+    game: &G,
+    configuration: u32,
+    plane: &Plane,
+    code: u32,
+    codes: &mut [u32],
+)
+    requires sound { G.sound game.now }
+    requires many { length codes.old ≡ (G.spots game.now).numbers }
+    requires only { (a b : ℕ) → a < 64 → b < 64 → has_pair plane.now a b ≡ true →
+        IsSpot (G.spots game.now) configuration a b }
+    ensures { let spots = G.spots game.now in
+        ArePut (λ i. (i < spots.numbers) × ((spots.at i).configuration ≡ configuration)
+        × (has_pair plane.now (spots.at i).white (spots.at i).black ≡ true))
+        code codes.old codes.new }
+{
+    let mut from: u16 = 0;
+    while let Some((a, b)) = plane.next_pair(from) {
+        let i = game.number(configuration, a, b);
+        codes[i as usize] = code;
+        from = 64 * u16::from(a) + u16::from(b) + 1;
+    }
+}
+
+/// Puts the code at each number of the planes.
+pub fn settle_all<G: PlaneGame<L>, L: Ledger>(
+    game: &G,
+    planes: &[Plane],
+    code: u32,
+    codes: &mut [u32],
+)
+    requires sound { G.sound game.now }
+    requires wide { length planes.now ≡ (G.spots game.now).configurations }
+    requires many { length codes.old ≡ (G.spots game.now).numbers }
+    requires only { (c a b : ℕ) → c < (G.spots game.now).configurations → a < 64 → b < 64 →
+        has_pair (plane_at planes.now c) a b ≡ true → IsSpot (G.spots game.now) c a b }
+    ensures { ArePut (IsIn (G.spots game.now) planes.now) code codes.old codes.new }
+{
+    for c in 0..game.configurations() {
+        settle(game, c, &planes[c as usize], code, codes);
+    }
+}
+
+/// Has any of the planes a pair?
+pub fn has_any(planes: &[Plane]) -> bool
+    ensures none { result ≡ false → (c a b : ℕ) → c < length planes.now → a < 64 → b < 64 →
+        has_pair (plane_at planes.now c) a b ≡ false }
+    ensures some { result ≡ true → (c : ℕ) × (a : ℕ) × (b : ℕ) × (c < length planes.now)
+        × (a < 64) × (b < 64) × (has_pair (plane_at planes.now c) a b ≡ true) }
+{
+    for c in 0..planes.len() {
+        if planes[c].next_pair(0).is_some() {
+            return true;
+        }
+    }
+    false
+}
