@@ -71,7 +71,7 @@ module _ (table : List ℕ) (behind : List (List ℕ)) (apart : has_twice (table
       (sym h.hold)
       (record { steps = within.steps; calls = within.calls; asked = within.asked })
 
-  at_files : (helds : List (Option (List ℕ))) (h : NamesHold old.files table behind helds)
+  abbrev at_files : (helds : List (Option (List ℕ))) (h : NamesHold old.files table behind helds)
       (files : Files) (left : List ℕ) → Agrees start files left → Found job files left start
   at_files helds h files left agrees =
       found_where job h.files files left start (λ e. cc) h.agrees agrees
@@ -157,8 +157,8 @@ module _ (table : List ℕ) (behind : List (List ℕ)) (apart : has_twice (table
         → HasAtlasCause {T = Option Told} (Err f) old new
         → EndsVerdict (length behind) f end out after
         → Ran job end start (world new input after now)
-    by_fault (Rules f) refused cause ends = absurd refused
-    by_fault (Table f) refused cause ends = absurd refused
+    by_fault (Rules f) h cause ends = absurd h
+    by_fault (Table f) h cause ends = absurd h
     by_fault (Back place f) is_refused cause ends =
         said job _ _ end start mid after quiet_so (fine_store old new input out before now cause)
         (own_back f table behind p) ends
@@ -173,9 +173,9 @@ module _ (table : List ℕ) (behind : List (List ℕ)) (apart : has_twice (table
           });
           costs = spent_within_costs r.helds held_so r.within;
         })
-    by_fault Failed refused cause ends =
+    by_fault Failed h cause ends =
         ended_at job end start mid after quiet_so Failed (refl, cause) ends refusal_begun
-    by_fault NoMemory refused cause ends =
+    by_fault NoMemory h cause ends =
         ended_at job end start mid after quiet_so NoMemory refl ends refusal_begun
 
     pub refused_so : HasAtlasCause {T = Option Told} (Err fault) old new
@@ -190,12 +190,12 @@ pub place_up_to : (table : List ℕ) (behind : List (List ℕ)) (old new : Store
 place_up_to table behind old new before now fault r = by_fault fault r.refuses
   where
     by_fault : (f : AtlasFault) → IsOneRefused r.helds f → IsPlaceUpTo (length behind) f
-    by_fault (Rules f) refused = tt
-    by_fault (Table f) refused = tt
-    by_fault (Back place f) refused =
-        let below = place_below [] r.helds place f refused in
+    by_fault (Rules f) h = tt
+    by_fault (Table f) h = tt
+    by_fault (Back place f) h =
+        let below = place_below [] r.helds place f h in
         let many = as_many_as_names old.files (names_over table behind) r.helds r.may_all in
         let names = length-append behind (table ∷ []) in
         omega (arith, below, many, names)
-    by_fault Failed refused = tt
-    by_fault NoMemory refused = tt
+    by_fault Failed h = tt
+    by_fault NoMemory h = tt
