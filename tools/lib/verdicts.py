@@ -1,4 +1,4 @@
-"""What is shown of a position, and what is believed for it: what `verdict` prints, read from docs/FORMATS.md."""
+"""What is shown of a position, and what is believed for it: what `verdict` prints, read from docs/users/commands.md."""
 
 from lib.chess import write_fen
 from lib.game import HOLD, SIDES, is_win
