@@ -13,17 +13,19 @@ use Rattle.frz_commands_verdict.proofs.command.verdict_at.Goals as goal
 
 pub write_told-requires-clause-writable : goal.write_told-requires-clause-writable
 write_told-requires-clause-writable g c =
+    let found = rw c.in-Ok-Some.field-0-is at c.in-Ok-Some.ensures.found in
     rw c.deref.ensures.value
     (lines_writable c.args.given.now.table.now (map string_bytes c.args.given.now.behind.now)
-    c.args.p.now _ _ _ _ c.in-Ok-Some.told c.requires.few c.in-Ok-Some.ensures.found)
+    c.args.p.now _ _ _ _ c.in-Ok-Some.told c.requires.few found)
 
 pub returns-in-Ok-Some : goal.returns-in-Ok-Some
 returns-in-Ok-Some g c = λ input.
     let e = c.in-Ok-Some.ensures in
     let told = c.in-Ok-Some.told in
+    let found = rw c.in-Ok-Some.field-0-is at e.found in
     let written = rw c.deref.ensures.value at c.write_told.ensures in
     verdict_is_told c.args.given.now.table.now (map string_bytes c.args.given.now.behind.now)
-    c.requires.apart c.args.p.now _ _ _ _ e.quiet e.later input _ _ _ told e.found e.cause
+    c.requires.apart c.args.p.now _ _ _ _ e.quiet e.later input _ _ _ told found e.cause
     (subst (λ (n : ℕ). Said Success (verdict_text c.args.p.now told.verdict n told.lines.items)
     c.said.result (sink_of g.O.Sink c.args.out.now) (sink_of g.O.Sink c.write_told.new.out))
     (sym (length-map c.args.given.now.behind.now string_bytes)) (c.said.ensures _ _ _ written))
@@ -31,8 +33,9 @@ returns-in-Ok-Some g c = λ input.
 pub returns-in-Ok-None : goal.returns-in-Ok-None
 returns-in-Ok-None g c = λ input.
     let e = c.in-Ok-None.ensures in
+    let found = rw c.in-Ok-None.field-0-is at e.found in
     outside_is_told c.args.given.now.table.now (map string_bytes c.args.given.now.behind.now)
-    c.requires.apart c.args.p.now _ _ _ _ e.quiet e.later input _ _ _ e.found e.cause c.end.ensures
+    c.requires.apart c.args.p.now _ _ _ _ e.quiet e.later input _ _ _ found e.cause c.end.ensures
 
 pub end_verdict-requires-clause-place : goal.end_verdict-requires-clause-place
 end_verdict-requires-clause-place g c =
