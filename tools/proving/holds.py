@@ -7,13 +7,14 @@ import random
 from dataclasses import dataclass, field
 from typing import Optional
 
-from proving.board import Position
+from lib.chess import other
+from proving.board import Position, man_of
 from proving.events import Event, Kind
 from proving.guess import has_new_man
 from proving.mend import How
 from proving.reach import give_reach, wider_reach
 from proving.rescues import find_rescue
-from proving.row import MANY_PLIES, Spot
+from proving.row import MANY_PLIES, Spot, is_bare
 from proving.searching import Search
 from proving.tables import is_safe, is_win
 
@@ -40,7 +41,7 @@ class HoldSearch(Search):
         found = self.spoiled(index, position)
         if found.entries:
             if not (self.is_race(found.entries[0][0]) and self.rescue(index, position)):
-                self.settle(*found.entries[0])
+                all(self.settle(*entry) for entry in found.entries[:MOST_EVENTS])
             return True
         steps = (
             lambda: self.mend_all(quiet(found.theirs), self.limit),
@@ -52,6 +53,7 @@ class HoldSearch(Search):
             lambda: self.mend_all([e for e in found.theirs if e.kind is Kind.PROMOTION], self.limit),
             lambda: self.widen(found, self.limit),
             lambda: self.mend_rest(found),
+            lambda: self.mend_all(found.theirs, self.limit),
         )
         return any(step() for step in steps)
 
@@ -63,14 +65,15 @@ class HoldSearch(Search):
     def rescue(self, index: int, position: Position) -> bool:
         """Works on what the guesses rest on: cells behind at their entries, and ways out of the side's own."""
         found = find_rescue(self, index, position)
-        for entry in found.entries:
-            self.settle(*entry)
+        if found.entries:
+            all(self.settle(*entry) for entry in found.entries[:MOST_EVENTS])
             return True
         for event in found.events:
-            way = self.mend(event, self.limit)
+            way = self.mend(event, min(self.limit, SMALL)) or self.mend(event, self.limit)
             if way is not None:
                 if way.how is not How.IN_PLACE:
                     self.covered.setdefault(event.cell.name, {})[event.key] = event.condition(), way.cell.name
+                    self.settle(way.cell.name, event.after)
                 return True
         return False
 
@@ -142,6 +145,7 @@ class HoldSearch(Search):
             return False
         _, index, made = min(ways, key=lambda way: way[0])
         self.row.cells[index] = made
+        self.failures.clear()
         self.tell(f"  more squares for the side: {made.name}, {made.size} numbers")
         return True
 
@@ -164,4 +168,10 @@ class HoldSearch(Search):
 
 
 def quiet(events: list[Event]) -> list[Event]:
-    return [event for event in events if event.kind is not Kind.PROMOTION]
+    return [event for event in events if event.kind is not Kind.PROMOTION and not is_hopeless(event)]
+
+
+def is_hopeless(event: Event) -> bool:
+    """Is the king alone against a queen or a rook after it?"""
+    side, board = event.after.turn, event.after.board
+    return is_bare(event.after, side) and any(man_of(other(side), kind) in board for kind in "QR")

@@ -12,13 +12,14 @@ from proving.board import Position, men_of
 from proving.cells import Cell
 from proving.events import NEW_MEN, Event, Kind
 from proving.groups import PIECES, Slot
-from proving.reach import PIECES_FIRST, close, fit, give_reach, wider_reach
+from proving.reach import EVERYWHERE, PIECES_FIRST, close, fit, flood, give_reach, keep_near, walls_of, wider_reach
 from proving.words import begun, further
 
 
 LARGE = 4  # from this part of the limit on a pawn's step may have a cell of its own, since he never comes back
 CROWD = 100_000  # numbers that one table more is worth
 BEHIND_PROMOTION = 1_500_000  # numbers of a cell with a new man of the side's
+NEAR = 1  # steps of a king whose side has a new queen
 NEW_MEN_IDS = range(min(NEW_MEN.values()), 128)
 
 
@@ -46,12 +47,21 @@ def first_cell(position: Position, own: str, most: int, name: str) -> Cell:
         slots[square] = Slot(side_of(man), man.upper() not in PIECES, {(man.upper(), square)})
     cell = Cell(name, slots, "The position itself.")
     cell.frozen = own_pawns(slots, own)
-    close(cell)
+    loosen(close(cell), own)
     return fit(cell, own, most, {i: i for i in slots})
 
 
 def own_pawns(slots: dict[int, Slot], own: str) -> set[int]:
     return {i for i, slot in slots.items() if slot.side == own and slot.is_pawn}
+
+
+def loosen(cell: Cell, own: str) -> Cell:
+    """Lets the opponent's pawns that may run be taken too: beside their squares that costs little, and somebody has to
+    stop them."""
+    for slot in cell.slots.values():
+        if slot.side != own and len(slot.squares("P")) > 1:
+            slot.is_sure = False
+    return cell.changed()
 
 
 def new_man(event: Event) -> Slot:
@@ -99,6 +109,14 @@ def split(event: Event, own: str, name: str) -> Cell:
     return close(made)
 
 
+def arrive(cell: Cell, i: int, kind: str, square: int) -> None:
+    """Gives a man a square, and those near it where he keeps near."""
+    slot = cell.slots[i]
+    slot.states.add((kind, square))
+    if slot.reach is not None and slot.reach < EVERYWHERE:
+        slot.states |= {(kind, s) for s in flood(kind, slot.side, [square], walls_of(cell), slot.reach)}
+
+
 def hull(cell: Cell, event: Event) -> Optional[Cell]:
     """The cell grown so that it holds the position after the event too; None where a man is none of its own."""
     made = cell.copy()
@@ -106,7 +124,7 @@ def hull(cell: Cell, event: Event) -> Optional[Cell]:
     for square, i in event.ids.items():
         kind = event.after.board[square].upper()
         if i in made.slots:
-            made.slots[i].states.add((kind, square))
+            arrive(made, i, kind, square)
         elif kind == "P":
             made.slots[i] = Slot(event.cell.slots[i].side, False, {("P", square)})
             if i in event.cell.frozen:
@@ -129,39 +147,59 @@ def prospect(cell: Cell, own: str) -> int:
     return close(running).size
 
 
-def ways(row: list[Cell], index: int, event: Event, own: str, limit: int, most_cells: int, name: str) -> Iterator[Way]:
+def ways(row: list[Cell], index: int, event: Event, own: str, limit: int, most_cells: int, name: str, is_win: bool) -> Iterator[Way]:
     """The ways to mend the event of the cell at the index, of no more numbers than the limit."""
     full = len(row) >= most_cells
     if event.kind is not Kind.PROMOTION or not event.is_own or full:
-        made = in_place(event)
+        made = loosen(in_place(event), own)
+        if made.size > limit and not event.is_own and event.kind is Kind.LEAVE and is_new(event):
+            made = fit(made, own, limit, {i: slot.home for i, slot in made.slots.items() if slot.home is not None})
         yield Way(How.IN_PLACE, growth(event.cell, made, own), index, made)
     if event.kind is Kind.LEAVE or event.kind is Kind.STEP and made.size <= limit / LARGE:
         return
     for j in range(index):
         made = hull(row[j], event)
         if made is not None:
+            loosen(made, own)
             yield Way(How.HULL, growth(row[j], made, own), j, made)
     if not full:
-        made = fitted(split(event, own, name), event, own, limit)
+        made = fitted(loosen(split(event, own, name), own), event, own, limit, is_win)
         crowd = CROWD * (1 + max(0, len(row) - 3))
         yield Way(How.SPLIT, prospect(made, own) * 1.25 + crowd + event.cell.size / 4, index, made)
 
 
-def fitted(made: Cell, event: Event, own: str, limit: int) -> Cell:
-    """Behind a promotion of the side's own the new man is to do the work: the others keep near."""
+def is_new(event: Event) -> bool:
+    """Does a man move who was a pawn?"""
+    return event.slot in NEW_MEN_IDS
+
+
+def fitted(made: Cell, event: Event, own: str, limit: int, is_win: bool) -> Cell:
+    """The new cell with as much room for the side's men as the limit leaves. Behind a promotion of the side's own the
+    new man is to do the work: the others keep near first. To win with a queen a king needs few squares."""
     at = {i: s for s, i in event.ids.items()}
-    if event.kind is not Kind.PROMOTION or not event.is_own:
-        return fit(made, own, limit, at)
-    others = {i: s for i, s in at.items() if s != event.move.to}
-    fit(made, own, min(limit, BEHIND_PROMOTION), others, PIECES_FIRST)
-    return fit(made, own, limit, at)
+    for i, slot in made.slots.items():
+        if slot.reach is not None and i in at:
+            slot.home = at[i]
+            give_reach(made, i, EVERYWHERE)
+    if event.kind is Kind.PROMOTION and event.is_own:
+        others = {i: s for i, s in at.items() if s != event.move.to}
+        fit(made, own, min(limit, BEHIND_PROMOTION), others, PIECES_FIRST)
+    fit(made, own, limit, at)
+    for i, slot in made.slots.items():
+        if is_win and slot.is_king and slot.side == own and has_new_queen(made, own):
+            keep_near(made, i, NEAR)
+    return made
+
+
+def has_new_queen(cell: Cell, own: str) -> bool:
+    return any(i in NEW_MEN_IDS and slot.side == own and slot.squares("Q") for i, slot in cell.slots.items())
 
 
 def growth(old: Cell, made: Cell, own: str) -> float:
     return prospect(made, own) - prospect(old, own) + made.size / 4
 
 
-def cheapest(row: list[Cell], index: int, event: Event, own: str, limit: int, most_cells: int, name: str) -> Optional[Way]:
+def cheapest(row: list[Cell], index: int, event: Event, own: str, limit: int, most_cells: int, name: str, is_win: bool) -> Optional[Way]:
     """The cheapest way to mend the event, or None where each is too large."""
-    fitting = [way for way in ways(row, index, event, own, limit, most_cells, name) if way.cell.size <= limit and way.cell.is_writable()]
+    fitting = [way for way in ways(row, index, event, own, limit, most_cells, name, is_win) if way.cell.size <= limit and way.cell.is_writable()]
     return min(fitting, key=lambda way: way.price, default=None)

@@ -23,17 +23,21 @@ class Search:
     """A search for one side: `settle` works on a cell until what it says of a position is enough."""
 
     row: Row
-    limit: int
+    limit: int  # numbers of one set
     most_cells: int
     tell: Callable[[str], None]
     rounds: int = 0
     tried: set = field(default_factory=set)  # events that cannot be mended, or were
     given_up: set = field(default_factory=set)  # names of cells with positions on which nothing more was found
     after_round: Callable[[], None] = lambda: None
-    patience: int = 6  # how often the cells are changed for one position of a cell behind
+    patience: int = 12  # how often cells are changed for one position of a cell behind
     depth: int = 0
     paths: dict[Position, tuple[str, ...]] = field(default_factory=dict)  # how the search came to positions
     threats: list[tuple[str, ...]] = field(default_factory=list)  # ways of the opponent's that were met
+    mends: int = 0
+    failures: dict[str, int] = field(default_factory=dict)  # how often nothing was found in a cell as it is
+    most_failures: int = 4  # after which a cell is left, as it is
+    is_late: bool = False  # was all tried once?
     ran_out: bool = False  # patience ended some work that could go on
 
     @property
@@ -46,33 +50,34 @@ class Search:
 
     def settle(self, name: str, position: Position) -> bool:
         """Works on the cell until the claim is proved of the position there (True), refuted, or nothing more is found."""
-        changes = 0
+        began = self.mends
         while True:
             index = self.row.index(name)
             self.row.ensure(index)
-            outcome = verdict(self.row, Spot(index, self.row.cells[index].number(position)))
+            number = self.row.cells[index].number(position)
+            if number is None:  # its men keep nearer by now
+                return self.give_up(name, position)
+            outcome = verdict(self.row, Spot(index, number))
             self.tell_round(index, position, outcome)
             if outcome is not Status.OPEN:
                 return outcome is Status.PROVED
-            if self.depth and changes >= self.patience:
+            if self.depth and self.mends - began >= self.patience:
                 self.ran_out = True
-                self.given_up.add((name, position))
-                return False
-            changes += 1
+                return self.give_up(name, position)
             self.depth += 1
             is_changed = self.improve(name, position)
             self.depth -= 1
             if not is_changed and not self.has_more_patience():
-                self.given_up.add((name, position))
-                return False
+                return self.give_up(name, position)
 
     def has_more_patience(self) -> bool:
         """At the first position: tries again what was given up, with more patience."""
-        if self.depth or not self.ran_out or self.patience > 100:
+        if self.depth or not self.ran_out or self.patience > 200:
             return False
         self.patience *= 3
-        self.ran_out = False
+        self.is_late, self.ran_out = True, False
         self.given_up.clear()
+        self.failures.clear()
         return True
 
     def improve(self, name: str, position: Position) -> bool:
@@ -97,9 +102,12 @@ class Search:
         if mark in self.tried:
             return None
         self.tried.add(mark)
-        way = cheapest(row.cells, index, event, self.own, limit, self.most_cells, row.new_name())
+        way = cheapest(row.cells, index, event, self.own, limit, self.most_cells, row.new_name(), row.claim == "win")
         if way is not None:
             self.apply(way)
+            self.mends += 1
+            for cell in self.row.cells[way.index:]:
+                self.failures.pop(cell.name, None)
             if not event.is_own:
                 self.threats.append(self.paths.get(event.position, ()) + (move_text(event.move),))
             self.tell(f"  {event}: {way.how.value} {way.cell.name}, {way.cell.size} numbers")
@@ -133,8 +141,20 @@ class Search:
         self.tell(f"round {self.rounds}, {taken:.1f} s, {self.row.cells[index].name} at {write_fen(position)}: {outcome.value}; {sizes}")
         self.after_round()
 
+    def give_up(self, name: str, position: Position) -> bool:
+        self.given_up.add((name, position))
+        self.failures[name] = self.failures.get(name, 0) + 1
+        return False
+
+    def is_exhausted(self, name: str) -> bool:
+        return self.failures.get(name, 0) >= self.most_failures
+
     def has_given_up(self, spot: Spot, position: Position) -> bool:
-        return spot.index >= 0 and (self.row.cells[spot.index].name, position) in self.given_up
+        """Was nothing more found for the position, or for some others of its cell since cells were changed?"""
+        if spot.index < 0:
+            return False
+        name = self.row.cells[spot.index].name
+        return (name, position) in self.given_up or self.is_exhausted(name)
 
     def cell_named(self, name: str) -> Cell:
         return self.row.cells[self.row.index(name)]

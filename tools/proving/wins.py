@@ -10,8 +10,9 @@ from dataclasses import dataclass, field
 
 from proving.board import Position
 from proving.events import Event, Kind, hangs
-from proving.guess import ENTRIES, PLANS, QUEENS, SILLY, guess_lines, price
-from proving.mend import How
+from proving.guess import DEAR, ENTRIES, PLANS, QUEENS, SILLY, guess_lines, has_new_man, price
+from proving.mend import NEAR, How
+from proving.reach import give_reach
 from proving.row import MANY_PLIES, Spot
 from proving.searching import Search
 from proving.tables import is_safe, is_win
@@ -25,6 +26,7 @@ class Plan:
 
     events: dict = field(default_factory=dict)
     entries: list[tuple[str, Position]] = field(default_factory=list)
+    plies: int = 0  # within how many plies the guesses win
     learned: bool = False  # events were met that a cell behind answers, and that the guesses hid
 
     def __bool__(self) -> bool:
@@ -33,7 +35,9 @@ class Plan:
 
 @dataclass
 class WinSearch(Search):
+    most_failures: int = 15
     tiers: dict[tuple[str, Position], int] = field(default_factory=dict)  # how far the ways are opened for a position
+    promise: int = MANY_PLIES  # within how many plies the first guesses win the first position
     covered: dict[str, dict] = field(default_factory=dict)
     barred: dict[str, list[str]] = field(default_factory=dict)
 
@@ -43,8 +47,30 @@ class WinSearch(Search):
         for tier in [*self.entry_tiers(name), *range(first, SILLY + 1)]:
             self.tiers[name, position] = max(tier, first)
             plan = self.plan(name, position, tier)
+            if plan.plies >= DEAR and self.widen(name):
+                return True
+            if plan.plies >= DEAR and self.is_behind(name) and not self.is_late:
+                self.ran_out = True
+                return False
             if plan.learned or self.follow(plan):
                 return True
+        return False
+
+    def is_behind(self, name: str) -> bool:
+        """Is it a cell with a new man, that was entered from another one?"""
+        return self.depth > 1 and has_new_man(self.cell_named(name), self.own)
+
+    def widen(self, name: str) -> bool:
+        """Lets a king go further who was kept nearest."""
+        cell = self.cell_named(name)
+        for i, slot in cell.slots.items():
+            if slot.side == self.own and slot.is_king and slot.reach == NEAR:
+                made = cell.copy()
+                give_reach(made, i, NEAR + 1)
+                if made.size <= self.limit:
+                    self.row.cells[self.row.index(name)] = made
+                    self.tell(f"  more squares for the king: {name}, {made.size} numbers")
+                    return True
         return False
 
     def entry_tiers(self, name: str) -> list[int]:
@@ -106,7 +132,12 @@ class WinSearch(Search):
         index = self.row.index(name)
         table, plan = self.guess(index, tier), Plan()
         spot = Spot(index, self.row.cells[index].number(position))
-        is_priced = tier >= PLANS and is_win(self.row.code(spot, self.own, table))
+        code = self.row.code(spot, self.own, table)
+        is_priced = tier >= PLANS and is_win(code)
+        if is_priced:
+            plan.plies = code // 2
+            if self.promise == MANY_PLIES:
+                self.promise = plan.plies
         if not is_priced and is_safe(self.row.code(spot, self.foe, table)):
             return plan
         todo, seen = [position], set()
