@@ -10,17 +10,15 @@ from typing import Optional
 from lib.chess import side_of
 from proving.board import Position, men_of
 from proving.cells import Cell
-from proving.events import NEW_MEN, Event, Kind
+from proving.events import Event, Kind
 from proving.groups import PIECES, Slot
-from proving.reach import EVERYWHERE, PIECES_FIRST, close, fit, flood, give_reach, keep_near, walls_of, wider_reach
+from proving.reach import close, fit, give_reach, wider_reach
+from proving.room import NEW_MEN_IDS, arrive, fitted, is_new
 from proving.words import begun, further
 
 
 LARGE = 4  # from this part of the limit on a pawn's step may have a cell of its own, since he never comes back
 CROWD = 100_000  # numbers that one table more is worth
-BEHIND_PROMOTION = 1_500_000  # numbers of a cell with a new man of the side's
-NEAR = 1  # steps of a king whose side has a new queen
-NEW_MEN_IDS = range(min(NEW_MEN.values()), 128)
 
 
 class How(enum.Enum):
@@ -109,14 +107,6 @@ def split(event: Event, own: str, name: str) -> Cell:
     return close(made)
 
 
-def arrive(cell: Cell, i: int, kind: str, square: int) -> None:
-    """Gives a man a square, and those near it where he keeps near."""
-    slot = cell.slots[i]
-    slot.states.add((kind, square))
-    if slot.reach is not None and slot.reach < EVERYWHERE:
-        slot.states |= {(kind, s) for s in flood(kind, slot.side, [square], walls_of(cell), slot.reach)}
-
-
 def hull(cell: Cell, event: Event) -> Optional[Cell]:
     """The cell grown so that it holds the position after the event too; None where a man is none of its own."""
     made = cell.copy()
@@ -166,33 +156,6 @@ def ways(row: list[Cell], index: int, event: Event, own: str, limit: int, most_c
         made = fitted(loosen(split(event, own, name), own), event, own, limit, is_win)
         crowd = CROWD * (1 + max(0, len(row) - 3))
         yield Way(How.SPLIT, prospect(made, own) * 1.25 + crowd + event.cell.size / 4, index, made)
-
-
-def is_new(event: Event) -> bool:
-    """Does a man move who was a pawn?"""
-    return event.slot in NEW_MEN_IDS
-
-
-def fitted(made: Cell, event: Event, own: str, limit: int, is_win: bool) -> Cell:
-    """The new cell with as much room for the side's men as the limit leaves. Behind a promotion of the side's own the
-    new man is to do the work: the others keep near first. To win with a queen a king needs few squares."""
-    at = {i: s for s, i in event.ids.items()}
-    for i, slot in made.slots.items():
-        if slot.reach is not None and i in at:
-            slot.home = at[i]
-            give_reach(made, i, EVERYWHERE)
-    if event.kind is Kind.PROMOTION and event.is_own:
-        others = {i: s for i, s in at.items() if s != event.move.to}
-        fit(made, own, min(limit, BEHIND_PROMOTION), others, PIECES_FIRST)
-    fit(made, own, limit, at)
-    for i, slot in made.slots.items():
-        if is_win and slot.is_king and slot.side == own and has_new_queen(made, own):
-            keep_near(made, i, NEAR)
-    return made
-
-
-def has_new_queen(cell: Cell, own: str) -> bool:
-    return any(i in NEW_MEN_IDS and slot.side == own and slot.squares("Q") for i, slot in cell.slots.items())
 
 
 def growth(old: Cell, made: Cell, own: str) -> float:

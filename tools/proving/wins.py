@@ -11,8 +11,9 @@ from dataclasses import dataclass, field
 from proving.board import Position
 from proving.events import Event, Kind, hangs
 from proving.guess import DEAR, ENTRIES, PLANS, QUEENS, SILLY, guess_lines, has_new_man, price
-from proving.mend import NEAR, How
+from proving.mend import How
 from proving.reach import give_reach
+from proving.room import NEAR
 from proving.row import MANY_PLIES, Spot
 from proving.searching import Search
 from proving.tables import is_safe, is_win
