@@ -9,7 +9,7 @@ from dataclasses import dataclass, field
 from functools import cached_property
 from typing import Optional
 
-from lib.chess import other, side_of
+from lib.chess import KINDS, other, side_of
 from lib.rules import MOST_MEN
 from proving.board import NOWHERE, Position, beside, man_of, men_of
 from proving.groups import Group, Slot, State, group_order, together
@@ -32,9 +32,25 @@ class Cell:
 
     def changed(self) -> Cell:
         """To be called after a change of the slots: forgets what was computed from them."""
-        for name in ("groups", "turns", "size", "owners", "known_ids"):
+        for name in ("groups", "turns", "size", "owners", "known_ids", "ranges", "known_text"):
             self.__dict__.pop(name, None)
         return self
+
+    @cached_property
+    def known_text(self) -> str:
+        """The text that proves, once it was asked for."""
+        return ""
+
+    @cached_property
+    def ranges(self) -> dict[str, tuple[int, int]]:
+        """The least and the greatest number of men, by side and kind."""
+        found = {}
+        for side in "wb":
+            slots = [(slot.is_sure, {kind for kind, _ in slot.states}) for slot in self.slots.values() if slot.side == side]
+            for kind in KINDS:
+                least = sum(is_sure and kinds == {kind} for is_sure, kinds in slots)
+                found[side + kind] = least, sum(kind in kinds for _, kinds in slots)
+        return found
 
     @cached_property
     def groups(self) -> list[Group]:
@@ -114,7 +130,7 @@ class Cell:
         return sum(slot.side == side and bool(slot.squares(kind)) for slot in self.slots.values())
 
     def text(self, lines: list[str], comments: list[str]) -> str:
-        return "\n".join(comments + ["freezer 1"] + [group.line() for group in self.groups] + lines) + "\n"
+        return "\n".join(comments + ["freezer 1"] + [group.line for group in self.groups] + lines) + "\n"
 
 
 def matched(men: list[State], slots: list[tuple[int, Slot]], used=frozenset()) -> Optional[dict[int, int]]:

@@ -3,6 +3,7 @@
 from __future__ import annotations
 
 from dataclasses import dataclass
+from functools import cached_property
 from math import comb
 from typing import Optional
 
@@ -57,6 +58,7 @@ class Group:
         self.most = min(len(members), len(self.states))
         self.choices = sum(comb(len(self.states), men) for men in range(self.least, self.most + 1))
 
+    @cached_property
     def line(self) -> str:
         count = str(self.most) if self.least == self.most else f"{self.least}-{self.most}"
         words = []

@@ -15,7 +15,6 @@ from proving.board import FORWARD, PAWN_HITS
 from proving.cells import Cell
 from proving.events import NEW_MEN, Event, Kind, gone, guarded_squares, is_silly
 from proving.groups import COLOUR, squares_text
-from proving.row import kind_range
 
 ASKED_LAST = False
 MOST_LINES, MOST_CONDITIONS = 128, 8
@@ -105,7 +104,7 @@ def told_apart(cell: Cell, target: Cell, key: tuple) -> list[str]:
     words = []
     for side in "wb":
         for kind in "PNBRQ":
-            here, there = kind_range(cell, side, kind), kind_range(target, side, kind)
+            here, there = cell.ranges[side + kind], target.ranges[side + kind]
             if key[0] is Kind.PROMOTION and kind != "P" and side == cell.slots[key[1]].side:
                 continue
             if here[0] < there[0] or here[1] > there[1]:

@@ -58,7 +58,14 @@ class Row:
         self.named += 1
 
     def behind(self, index: int) -> list[int]:
-        """The cells to which this one may lead, and those to which these may, in order."""
+        """The cells to which this one may lead, and those to which these may, in order; kept until the cells change."""
+        if self.known_cells != self.cells:
+            self.known_cells, self.known_behind = list(self.cells), {}
+        if index not in self.known_behind:
+            self.known_behind[index] = self.find_behind(index)
+        return self.known_behind[index]
+
+    def find_behind(self, index: int) -> list[int]:
         reached: set[int] = set()
         for j in range(index - 1, -1, -1):
             if any(may_lead(self.cells[i], self.cells[j]) for i in (index, *reached)):
@@ -68,20 +75,29 @@ class Row:
     def plain_text(self, cell: Cell) -> str:
         """The text that proves: with the one exit line that is true by the men, that a bare king mates nobody. A win
         may lie behind it, so only the text of a hold has it."""
+        if cell.known_text:
+            return cell.known_text
         words = bare_words(cell, other(self.own))
         lines = [f"exit {COLOUR[self.own]} holds if {words}"] if words and self.claim == "hold" else []
         asked = f"Asked: does {SIDES[self.own]} {'win' if self.claim == 'win' else 'not lose'}?"
-        return cell.text(lines, head([cell.about, asked]))
+        cell.known_text = cell.text(lines, head([cell.about, asked]))
+        return cell.known_text
 
     def ensure(self, index: int) -> Table:
         """The plain table of the cell, built where it or one behind it has changed."""
-        return self.build(index, self.cells[index].name, self.plain_text(self.cells[index]))
+        self.ensure_all([*self.behind(index), index])
+        return self.built[self.cells[index].name].table
+
+    def ensure_all(self, indices: list[int]) -> None:
+        """The same for several cells, where all that lies behind one of them comes before it."""
+        for j in indices:
+            backs = [self.built[self.cells[k].name] for k in self.behind(j)]
+            self.build(j, self.cells[j].name, self.plain_text(self.cells[j]), backs)
 
     def build(self, index: int, name: str, text: str, backs: Optional[list[Built]] = None) -> Table:
         """The table of the text over the plain tables behind the cell, or over these."""
         if backs is None:
-            for j in self.behind(index):
-                self.ensure(j)
+            self.ensure_all(self.behind(index))
             backs = [self.built[self.cells[j].name] for j in self.behind(index)]
         made_of = text, tuple(back.version for back in backs)
         kept = self.built.get(name)
@@ -97,19 +113,11 @@ class Row:
             return Spot(index, number)
         if self.claim == "hold" and is_bare(position, other(self.own)):
             return BY_THE_MEN
-        for j in self.behind_of(index):
+        for j in self.behind(index):
             number = self.cells[j].number(position)
             if number is not None:
                 return Spot(j, number)
         return None
-
-    def behind_of(self, index: int) -> list[int]:
-        """As `behind`, kept until the cells change."""
-        if self.known_cells != self.cells:
-            self.known_cells, self.known_behind = list(self.cells), {}
-        if index not in self.known_behind:
-            self.known_behind[index] = self.behind(index)
-        return self.known_behind[index]
 
     def code(self, spot: Spot, side: str, name: str = "") -> int:
         """The plain code of a side there, or that of the table of this name."""
@@ -125,18 +133,11 @@ class Row:
         return WON if is_win(code) else HOLD if is_safe(code) else LOST
 
 
-def kind_range(cell: Cell, side: str, kind: str) -> tuple[int, int]:
-    """The least and the greatest number of such men in the cell."""
-    slots = [slot for slot in cell.slots.values() if slot.side == side]
-    sure = sum(slot.is_sure and all(k == kind for k, _ in slot.states) for slot in slots)
-    return sure, sum(bool(slot.squares(kind)) for slot in slots)
-
-
 def may_lead(cell: Cell, target: Cell) -> bool:
     """May a move out of the cell come to a position of the other? False only where it surely may not."""
     for side in "wb":
         for kind in "PNBRQ":
-            here, there = kind_range(cell, side, kind), kind_range(target, side, kind)
+            here, there = cell.ranges[side + kind], target.ranges[side + kind]
             if there[0] > here[1] + 1 or there[1] < here[0] - 1:
                 return False
     missing = [slot for slot in target.slots.values() if needs_pawn(slot) and not slot.squares("P") & pawn_squares(cell, slot.side)]

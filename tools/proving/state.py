@@ -23,7 +23,7 @@ def save(row: Row, fen: str, folder: str) -> None:
     """Writes the row; the texts lie beside it."""
     cells = [cell_state(row, cell) for cell in row.cells]
     state = {"fen": fen, "side": row.own, "claim": row.claim, "named": row.named, "cells": cells}
-    write_text(os.path.join(folder, NAME), json.dumps(state, indent=1) + "\n")
+    write_text(os.path.join(folder, NAME), json.dumps(state) + "\n")
 
 
 def cell_state(row: Row, cell: Cell) -> dict[str, Any]:
