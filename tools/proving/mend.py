@@ -142,7 +142,7 @@ def ways(row: list[Cell], index: int, event: Event, own: str, limit: int, most_c
     full = len(row) >= most_cells
     if event.kind is not Kind.PROMOTION or not event.is_own or full:
         made = loosen(in_place(event), own)
-        if made.size > limit and not event.is_own and event.kind is Kind.LEAVE and is_new(event):
+        if made.size > limit and not is_win and not event.is_own and event.kind is Kind.LEAVE and is_new(event):
             made = fit(made, own, limit, {i: slot.home for i, slot in made.slots.items() if slot.home is not None})
         yield Way(How.IN_PLACE, growth(event.cell, made, own), index, made)
     if event.kind is Kind.LEAVE or event.kind is Kind.STEP and made.size <= limit / LARGE:
