@@ -4,7 +4,7 @@ A pawn stands fast where an enemy pawn that stands fast is in its way and no ene
 square that it attacks. That pieces may be sacrificed to it, and that it may be taken by pieces or by the
 king, is told apart: these are the warnings of a draft."""
 
-from lib.chess import LEAPS, file_of, forward, other, rank_of, side_of
+from lib.chess import LEAPS, attacked_from, file_of, forward, other, rank_of, side_of
 
 PIECES = "QRBN"
 
@@ -73,6 +73,25 @@ class Events:
             for square in squares
             for place in self.pawns[pawn]
         )
+
+    def walls(self):
+        """The squares of the pawns that stand fast, by side."""
+        return {side: {s for s in self.pawns if side_of(self.men[s]) == side and self.is_fast(s)} for side in "wb"}
+
+    def shut_in(self):
+        """The pieces and kings that have no move as long as none of them has gone, and the pawns that stand fast."""
+        found = {s for s, man in self.men.items() if man not in "Pp" or self.is_fast(s)}
+        while free := {s for s in found if s not in self.pawns and self.has_way_out(s, found)}:
+            found -= free
+        return found
+
+    def has_way_out(self, square, shut):
+        """May the man there go to a square that nobody of his side keeps shut, and no pawn that stands fast attacks?"""
+        man = self.men[square]
+        side = side_of(man)
+        hit = {t for s in self.walls()[other(side)] for t in LEAPS[self.men[s]][s]} if man in "Kk" else set()
+        ways = set(attacked_from(self.men, square)) - hit
+        return any(t not in shut or side_of(self.men[t]) != side for t in ways)
 
     def may_be_gone(self, square):
         """Does the draft count with the man's loss? A king has none, and a pawn that stands fast is

@@ -6,6 +6,7 @@ from lib.chess import name_of, side_of, write_fen
 from lib.rules import LARGEST_SET, possible_targets
 
 SIDES = {"white": "w", "black": "b"}
+NEW = {3: "with what was promoted on the last rank alone", 2: "without what is promoted"}  # at so many moves
 REACHES = (3, 2, 1, 0)
 
 
@@ -28,20 +29,27 @@ class Draft:
         self.fit()
 
     def fit(self):
-        """Keeps men near where they stand until the set is small enough. Where it is not with each man on
-        his square, those of the other side, or Black's with no such side, may not be gone: that is enough."""
-        for own, reach in self.order() + [(False, WHOLE)]:
+        """Keeps men near where they stand until the set is small enough, first those who have no move. Where it is
+        not with each man on his square, those of the other side, or Black's with no such side, may not be gone: that is enough."""
+        shut = self.events.shut_in()
+        for index in range(len(self.groups)):
+            if self.groups[index].men and size_of(self.groups) > LARGEST_SET and set(self.groups[index].men) <= shut:
+                self.cut(index, 0)
+        for own, reach, only_new in self.order() + [(False, WHOLE, False)]:
             for index in self.wide(own):
                 if size_of(self.groups) <= LARGEST_SET:
                     return
-                self.cut(index, reach)
+                if not only_new or self.groups[index].new:
+                    self.cut(index, reach)
 
     def order(self):
-        """Whose men are kept within how many steps, first things first. The side that is asked about
-        chooses its own moves, so its men go first; with no such side both go step by step."""
+        """Whose men are kept within how many moves, first things first, and whether new men alone are meant. The side
+        that is asked about chooses its own moves, so its men go first, behind what the other's pawns become beyond
+        the last rank; the other's men stay free as long as they can. With no such side both go step by step."""
         if self.side:
-            return [(True, 3), (True, 2), (True, 1), (False, 3), (False, 2), (False, 1), (False, 0), (True, 0)]
-        return [(own, reach) for reach in REACHES for own in (True, False)]
+            own = [(True, reach, False) for reach in REACHES]
+            return [(False, 3, True), *own, (False, 2, True)] + [(False, reach, False) for reach in REACHES]
+        return [(own, reach, False) for reach in REACHES for own in (True, False)]
 
     def wide(self, own):
         """The groups of the side, or of the other one, those with the most choices first."""
@@ -53,8 +61,8 @@ class Draft:
 
     def cut(self, index, reach):
         group = self.groups[index]
-        near = kept_near(group, self.position.men, reach)
-        if len(near.states) >= max(near.most, 1) and near.choices < group.choices:
+        near = kept_near(group, self.position.men, reach, self.events.walls())
+        if len(near.states) >= near.most and near.choices < group.choices:
             self.groups[index] = near
             self.cuts.append((group, reach, size_of(self.groups)))
 
@@ -64,7 +72,7 @@ class Draft:
             + self.about_size()
             + self.warnings()
             + ["freezer 1"]
-            + [line for group in self.groups for line in self.about(group)]
+            + [line for group in self.groups if group.most for line in self.about(group)]
         )
 
     def about_size(self):
@@ -87,9 +95,11 @@ class Draft:
         """What a cut does to the men of the group."""
         if reach == WHOLE:
             return "not taken, without 0-1"
+        if group.new and reach in NEW:
+            return NEW[reach]
         if not self.is_of_pawns(group):
-            return f"within {reach} of where it stands" if reach else "where it stands"
-        return {3: "promoted, on the last rank alone", 2: "not promoted"}.get(reach, "where it stands")
+            return f"within {reach} move{'s' * (reach > 1)} of where it stands" if reach else "where it stands"
+        return "where it stands"
 
     def is_of_pawns(self, group):
         return all(self.position.men[s] in "Pp" for s in group.men)
@@ -109,6 +119,8 @@ class Draft:
         if pawns:
             names = ", ".join(name_of(s) for s in pawns)
             yield f"  what {colour}'s pawns on {names} may become: Q, R, B and N want places, or an exit line"
+        elif sum(side_of(men[s]) == side for s in self.events.promotes) > 1:
+            yield f"  a second new man of {colour}'s beside the first one"
         if names := ", ".join(name_of(s) for s in self.events.captors() if side_of(men[s]) == side):
             yield f"  captures by {colour}'s pawns on {names}, which leave their files"
         if names := ", ".join(name_of(s) for s in self.victims(side)):
@@ -122,15 +134,16 @@ class Draft:
                 yield f"  {self.named(group)}, {missed}"
 
     def may_become(self, pawn):
-        """Has the pawn's group places on the last rank for all that it may become?"""
-        rank = 7 if side_of(self.position.men[pawn]) == "w" else 0
-        group = next(g for g in self.groups if pawn in g.men)
-        return all((piece, 8 * rank + pawn % 8) in group.states for piece in PIECES)
+        """Are there places on the last rank for all that the pawn may become?"""
+        side = side_of(self.position.men[pawn])
+        square = 8 * (7 if side == "w" else 0) + pawn % 8
+        groups = [g for g in self.groups if g.new and SIDES[g.colour] == side]
+        return any(all((piece, square) in g.states for piece in PIECES) for g in groups)
 
     def missed(self, group, reach):
         """Where the men of the group may go that a cut leaves out. What their pawns may become is told apart."""
-        if self.is_of_pawns(group) and reach in (2, 3):
-            return "promoted and beyond the last rank" if reach == 3 else ""
+        if group.new and reach in NEW:
+            return "beyond the last rank" if reach == 3 else ""
         return f"other than {self.kept(group, reach)}"
 
     def victims(self, side):
@@ -141,7 +154,7 @@ class Draft:
 
     def about(self, group):
         men = self.position.men
-        kinds = {NAMES[men[s].upper()] for s in group.men}
+        kinds = {NAMES[men[s].upper()] for s in group.men} | ({"promoted"} if group.new else set())
         fast = "stands fast" if group.is_fixed and group.least == group.most else f"{group.choices:,} choices"
         own = [s for s in group.men if s in self.events.promotes and group.colour == self.side]
         lines = [f"# {group.colour}'s {group.begins(men)} ({' or '.join(sorted(kinds))}): {fast}"]
