@@ -67,12 +67,7 @@ fn write_table<O: Sink>(own: usize, place: usize, out: &mut O) -> Result<(), Fai
 }
 
 /// Writes the line behind the word for its table.
-fn write_of_table<O: Sink>(
-    own: usize,
-    place: usize,
-    line: Line,
-    out: &mut O,
-) -> Result<(), Failed>
+fn write_of_table<O: Sink>(own: usize, place: usize, line: Line, out: &mut O) -> Result<(), Failed>
     requires place { place ≤ MOST_BACKS }
     requires writable { IsWritable line }
     ensures { WroteText (words.of_table own place line) result
@@ -84,12 +79,7 @@ fn write_of_table<O: Sink>(
 }
 
 /// Writes the line if it tells of an exit line that is believed.
-fn write_belief<O: Sink>(
-    own: usize,
-    place: usize,
-    line: Line,
-    out: &mut O,
-) -> Result<(), Failed>
+fn write_belief<O: Sink>(own: usize, place: usize, line: Line, out: &mut O) -> Result<(), Failed>
     requires place { place ≤ MOST_BACKS }
     requires writable { IsWritable line }
     ensures { WroteText (belief_text own place line) result
