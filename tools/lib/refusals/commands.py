@@ -8,7 +8,7 @@ from lib.refusals.faults import Same, Stage
 from lib.refusals.fixtures import (
     A, A_BLACK, A_FILE, A_WHITE, BOUNDS, CHAINED_FILE, H, H_BLACK, H_FILE, H_WHITE, IN_A, IN_H, LINE_IN_A, LINE_IN_H,
     OPEN_IN_A, OPEN_IN_H, OVER_WHITE, PREMISES_OF_H, REPORT_OF_A, REPORT_OF_H, SAID_IN_A, SAID_IN_H, SESSION_IN_A,
-    SESSION_IN_H, SIZE_OF_A, altered, files_of, table,
+    SESSION_IN_H, SIZE_OF_A, VERDICT_OF_H, altered, files_of, table,
 )
 from lib.tables import CHAINED, LEANING
 
@@ -108,6 +108,10 @@ def atlas():
     yield "why", command(
         walked, "white wins within 2\n", count(3, 3), twice, faults.side(), fen, faults.either(), *behind(False),
         place,
+    )
+    yield "verdict", command(
+        {"TABLE": "H.t", "FEN": IN_H, **BACKS}, VERDICT_OF_H, count(2, 2), twice, fen, *behind(True), faults.either(),
+        wrong_over(), place,
     )
     yield "premises", command(
         {"RULES": "H", **BACKS}, PREMISES_OF_H, count(1, 1), same_of("RULES"), faults.rules(), *behind(True)

@@ -67,6 +67,8 @@ N_BELIEVED = "line 5 believed 2k5/8/1K6/8/8/8/8/R7 b - - 0 1\n"
 PREMISES_OF_H = (
     f"back 1\n{N_BELIEVED}back 2\nrules\nbelieved 1\nwhite true if believed\nblack true if believed\n"
 )
+# H leans on the tables behind it, so its wins have no number of plies to the mate.
+VERDICT_OF_H = f"{IN_H}\nwhite wins\nback 1 {N_BELIEVED}believed 1\n"
 SIZE_OF_A = "turns 2\ngroup 1 1\ngroup 2 2\ngroup 3 2\nnumbers 8\ndisk 153\nmemory 128\n"
 # 6 king's and 13 rook's moves from 0, 5 and 13 from 1, and Kc8 from 5.
 REPORT_OF_A = "exits 38 KRk\nsqueezes 0 unassigned 38\n"

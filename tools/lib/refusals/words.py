@@ -9,7 +9,7 @@ from lib.refusals.fixtures import (
 
 FREEZER = ("moves", "sans", "move", "solve", "build", "check", "query", "chain", "chaincheck", "chainquery", "line",
            "play", "report", "migrate", "sample")
-ATLAS = ("build", "check", "query", "line", "play", "why", "premises", "report", "each", "size")
+ATLAS = ("build", "check", "query", "line", "play", "why", "verdict", "premises", "report", "each", "size")
 NO_COMMAND = (
     "", "help", "--help", "-h", "-", "--version", "version", "Moves", "MOVES", "moves ", " moves", "move s", "mov",
     "movess", "checks", "Build", "buildx", "0", "freezer", "atlas", "./freezer", "A", IN_A, "ｍoves", "sample0",
@@ -96,12 +96,13 @@ def names_of_atlas():
 
 
 def many_backs():
-    """commands.md, refused: at most 16 BACKs, and none for `why` and `premises`."""
+    """commands.md, refused: at most 16 BACKs, and none for `why`, `verdict` and `premises`."""
     says = "commands.md, refused: too few words, or more than 16 BACKs"
     for count in (1, 2, 15, 16, 17, 18):
         backs = [f"b{n}" for n in range(count)]
         files = {"A": FILES["A"], "L.t": L_FILE, **dict.fromkeys(backs, N_FILE)}
         told = "".join(f"back {n}\n{N_BELIEVED}" for n in range(1, count + 1))
+        named = "".join(f"back {n} {N_BELIEVED}" for n in range(1, count + 1))
         believed = f"{told}rules\nbelieved {count}\nwhite true if believed\nblack true if believed\n"
         for words, text, given, made in (
             (("build", "A", "new"), "built 8\n", b"", {"new": L_FILE}),
@@ -109,6 +110,7 @@ def many_backs():
             (("line", "L.t", IN_A, "white"), LINE_IN_A, b"", {}),
             (("play", "L.t", IN_A, "white"), SESSION_IN_A, SAID_IN_A, {}),
             (("why", "L.t", IN_A, "white"), WINS, b"", {}),
+            (("verdict", "L.t", IN_A), f"{IN_A}\nwhite wins\n{named}believed {count}\n", b"", {}),
             (("premises", "A"), believed, b"", {}),
             (("report", "L.t"), "exits 37 KRk\nsqueezes 0 unassigned 37\n", b"", {}),
         ):
@@ -122,9 +124,11 @@ def many_backs():
 
 
 def without_backs():
-    says = "commands.md, refused: `why` and `premises` may have no BACK"
+    says = "commands.md, refused: `why`, `verdict` and `premises` may have no BACK"
     plain = "believed 0\nwhite true, exits undecided\nblack true, exits undecided\n"
     yield Case("atlas", ("premises", "A"), files_of(["A"]), 0, "rules\n" + plain, says)
+    verdict = f"{IN_A}\nwhite wins, mate within 2\nbelieved 0\n"
+    yield Case("atlas", ("verdict", "A.t", IN_A), files_of(["A.t"]), 0, verdict, says)
     for name in ("A.t", "L.t"):
         yield Case("atlas", ("why", name, IN_A, "white"), files_of([name]), 0, WINS, says)
 
