@@ -52,7 +52,7 @@ test_all_commands_are_told_where_the_word_is_none() {
         is "$(grep -c '^freezer: freezer ' <<< "$err")" 15 "the commands told at '$words'"
     done
     told 2 atlas -h
-    is "$(grep -c '^atlas: atlas ' <<< "$err")" 10 "the commands of atlas"
+    is "$(grep -c '^atlas: atlas ' <<< "$err")" 11 "the commands of atlas"
     told 2 freezer each plain FEN
     is "$err" "freezer: each is a command of atlas: $(line_of atlas each)" "a command of the other program"
 }
