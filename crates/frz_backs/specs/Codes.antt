@@ -2,7 +2,7 @@
 use Rattle.std.specs.Prelude.{ℕ, slice_index, Option, Some, None}
 use Rattle.frz_board.specs.Boards.{Board}
 use Rattle.frz_index.specs.Membership.{number_of}
-use Rattle.frz_chain.specs.Books.{Back}
+use Rattle.frz_backs.specs.Books.{Back}
 
 -- the codes at a number, none if there is no number
 abbrev pub codes_at : Back → Option ℕ → Option (ℕ × ℕ)

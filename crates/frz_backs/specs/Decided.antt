@@ -6,11 +6,10 @@ use Rattle.frz_sets.specs.declared.exit.Value.TheVariants.{Unknown}
 use Rattle.frz_sets.specs.Views.{RuleLines}
 use Rattle.frz_index.specs.Members.{Member}
 use Rattle.frz_arena.specs.Exits.{IsExit}
-use Rattle.frz_exits.specs.Books.{value_by}
 use Rattle.frz_game.specs.ExactTables.{HasExactOutcomes, is_decided}
 use Rattle.frz_game.specs.Games.{game_of}
 use Rattle.frz_backs.specs.Links.{Link, backs_of}
-use Rattle.frz_backs.specs.Values.{atlas_value}
+use Rattle.frz_backs.specs.Values.{atlas_value, own_value}
 
 -- the outcomes of both sides in a table are those of chess
 abbrev pub HasBothOutcomes : Link → Type 0
@@ -27,5 +26,5 @@ IsBehind links q = Any (λ link. Member link.rules.groups q) links
 abbrev pub AreLinesOrTables : RuleLines → List Link → Type 0
 AreLinesOrTables rules links =
     (q : Board) → IsExit (game_of rules (atlas_value rules (backs_of links))) q →
-    (is_decided (value_by rules q) ≡ true)
-    ⊎ ((value_by rules q ≡ Unknown) × IsBehind links q)
+    (is_decided (own_value rules (backs_of links) q) ≡ true)
+    ⊎ ((own_value rules (backs_of links) q ≡ Unknown) × IsBehind links q)

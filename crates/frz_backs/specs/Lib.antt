@@ -1,3 +1,7 @@
+pub mod Books
+pub mod FileOn
+pub mod Counts
+pub mod Behind
 pub mod Values
 pub mod Links
 pub mod Loaded
@@ -5,8 +9,5 @@ pub mod LinkPlies
 pub mod Decided
 pub mod ExactOver
 pub mod Codes
-pub use Rattle.frz_chain.specs.Books
 pub use Rattle.frz_chain.specs.Building
-pub use Rattle.frz_chain.specs.ChainPlies
-pub use Rattle.frz_chain.specs.FileOn
 pub use Rattle.frz_chain.specs.declared.back.BackTable

@@ -2,7 +2,7 @@
 use Rattle.std.specs.Prelude.{Bool, true, false}
 use Rattle.frz_chain.specs.FileKind.{FileKind}
 use Rattle.frz_chain.specs.FileKind.TheVariants.{Plain, Chained, Atlas}
-use Rattle.frz_chain.specs.FileOn.{loaded_back}
+use Rattle.frz_backs.specs.FileOn.{loaded_back}
 use Rattle.frz_chain.specs.declared.back.BackTable.{BackTable}
 use Rattle.frz_backs.specs.Links.{Link}
 

@@ -2,10 +2,14 @@
 //! first table whose set holds it tells its value.
 #![tactic(auto)]
 
+mod behind;
 mod book;
 mod codes;
+mod counts;
 pub mod laws;
 
+pub use behind::lines_behind;
 pub use book::AtlasBook;
 pub use codes::codes_on;
+pub use counts::{Counts, count_for, lines_count};
 pub use frz_chain::{BackTable, NewTable, ReadRules, build_ruled};

@@ -3,21 +3,20 @@
 ghost use Rattle.std.specs.Prelude.{ℕ, List, All};
 ghost use Rattle.frz_board.specs.declared.man.Colour.{Colour};
 ghost use Rattle.frz_sets.specs.Views.{RuleLines};
-ghost use Rattle.frz_exits.specs.Books.{value_by};
 ghost use Rattle.frz_game.specs.Bounds.{IsTableOf};
-ghost use Rattle.frz_game.specs.Values.{AreTrueExits};
 ghost use Rattle.frz_backs.specs.Decided.{HasBothOutcomes};
-ghost use Rattle.frz_backs.specs.ExactOver.{HasOutcomesOver};
+ghost use Rattle.frz_backs.specs.ExactOver.{AreTrueOutcomes, HasOutcomesOver};
 ghost use Rattle.frz_backs.specs.Links.{AreExact, Link, backs_of};
-ghost use Rattle.frz_backs.specs.Values.{atlas_value};
+ghost use Rattle.frz_backs.specs.Values.{atlas_value, own_value};
 
-/// If the outcomes in the tables are those of chess, what they tell is true, whatever their own
-/// exit lines say. So the exits of rules over them are true, where the exit lines of these rules
-/// are.
+/// If the outcomes in the tables are those of chess, the outcomes that they tell are true, whatever
+/// their own exit lines say. So the outcomes that the exits of rules over them give are true, where
+/// those that the exit lines of these rules give are.
 pub fn exits_by_outcomes()
     ensures { (rules : RuleLines) (links : List Link) → AreExact links →
-        All HasBothOutcomes links → AreTrueExits rules (value_by rules) →
-        AreTrueExits rules (atlas_value rules (backs_of links)) }
+        All HasBothOutcomes links →
+        AreTrueOutcomes rules (own_value rules (backs_of links)) →
+        AreTrueOutcomes rules (atlas_value rules (backs_of links)) }
 {}
 
 /// The outcomes of a table over several others are those of chess under the three conditions of

@@ -1,0 +1,17 @@
+-- A table behind the exit lines of another.
+use Rattle.std.specs.Prelude.{ℕ, List}
+use Rattle.frz_board.specs.declared.man.Colour.{Colour}
+use Rattle.frz_board.specs.declared.man.Colour.TheVariants.{White, Black}
+use Rattle.frz_sets.specs.Views.{ExitLine, GroupLine}
+
+-- the groups of its set, the exit lines of its text, and the codes of both sides
+pub record Back : Type 0 where
+  pub groups : List GroupLine
+  pub exits : List ExitLine
+  pub white : List ℕ
+  pub black : List ℕ
+
+-- its codes of a side
+abbrev pub back_codes : Back → Colour → List ℕ
+back_codes back White = back.white
+back_codes back Black = back.black

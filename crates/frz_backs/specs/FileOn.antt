@@ -1,0 +1,37 @@
+-- The table in a file, and the table of rules.
+use Rattle.std.specs.Prelude.{◌≡◌, ℕ, List}
+use Rattle.frz_board.specs.Boards.{Board}
+use Rattle.frz_board.specs.declared.man.Colour.TheVariants.{White, Black}
+use Rattle.frz_sets.specs.declared.exit.Value.{Value}
+use Rattle.frz_sets.specs.Views.{RuleLines}
+use Rattle.frz_game.specs.Bounds.{IsTableOf}
+use Rattle.frz_table.specs.Opening.{Contents}
+use Rattle.frz_build.specs.Kept.{kept_codes}
+use Rattle.frz_chain.specs.declared.back.BackTable.{BackTable}
+use Rattle.frz_backs.specs.Books.{Back}
+
+-- the table in these bytes
+abbrev pub back_of : Contents → List ℕ → Back
+back_of contents bytes = record {
+  groups = contents.rules.groups;
+  exits = contents.rules.exits;
+  white = kept_codes contents bytes White;
+  black = kept_codes contents bytes Black;
+}
+
+-- the table that was loaded
+abbrev pub loaded_back : BackTable → Back
+loaded_back back = record {
+  groups = back.table.rules.groups;
+  exits = back.table.rules.exits;
+  white = back.white.items;
+  black = back.black.items;
+}
+
+-- the table has the set and the exit lines of these rules, and its codes are the tables of both
+-- sides by the values of a book
+pub record IsExactBack (rules : RuleLines) (value : Board → Value) (back : Back) : Type 0 where
+  pub set : back.groups ≡ rules.groups
+  pub lines : back.exits ≡ rules.exits
+  pub white : IsTableOf rules value White back.white
+  pub black : IsTableOf rules value Black back.black
