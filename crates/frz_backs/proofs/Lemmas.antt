@@ -1,12 +1,13 @@
 -- The lemmas that the crates above cite.
 pub use Rattle.frz_backs.proofs.DecidedTables.{tables_decide}
 pub use Rattle.frz_backs.proofs.ExactOver.{outcomes_over}
-pub use Rattle.frz_backs.proofs.FewTables.{as_a_chain, lines_alone}
-pub use Rattle.frz_backs.proofs.FirstValue.{first_of, front_tells, none_tell, one_tells}
-pub use Rattle.frz_backs.proofs.LinkPlies.{mates_within, tables_within}
+pub use Rattle.frz_backs.proofs.FirstValue.{asked_behind, first_of, front_tells, holds_of_atlas_value, lines_alone, none_tell, own_or_told}
+pub use Rattle.frz_backs.proofs.LinkPlies.{mates_within}
 pub use Rattle.frz_backs.proofs.LoadedTables.{loaded_backs}
-pub use Rattle.frz_backs.proofs.SmallLags.{atlas_small, first_small, over_small}
-pub use Rattle.frz_backs.proofs.TablePlies.{TellsWithin, over_forced}
+pub use Rattle.frz_backs.proofs.Numbered.{IsNumbered, atlas_numbered, over_numbered, same_exit}
+pub use Rattle.frz_backs.proofs.OwnLines.{own_numbered}
+pub use Rattle.frz_backs.proofs.SmallLags.{atlas_small, counted_lines, counted_side, first_small, over_small, side_counted}
+pub use Rattle.frz_backs.proofs.Told.{holds_with_plies, number_inside, number_outside, or_unknown}
 pub use Rattle.frz_backs.proofs.Transfer.{codes_tell}
-pub use Rattle.frz_backs.proofs.TrueTables.{TellsTrue, exits_over_true, first_true, link_true, over_true, tables_true}
-pub use Rattle.frz_chain.proofs.Lemmas.{builds_after, costs_added, costs_kept, number_inside, number_outside, quiet_same, still_held}
+pub use Rattle.frz_backs.proofs.TrueTables.{AllTellTrue, TellsTrue, each_tells, exits_over_true, first_true, link_exits_true, link_true, none_tells, over_true, plies_back, table_of, tables_true}
+pub use Rattle.frz_chain.proofs.Lemmas.{builds_after, costs_added, costs_kept, quiet_same, still_held}

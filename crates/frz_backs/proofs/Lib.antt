@@ -1,11 +1,13 @@
 pub mod Lemmas
+mod Told
 mod FirstValue
+mod OwnLines
 mod LoadedTables
 mod SmallLags
-mod FewTables
+mod Numbered
 mod TrueTables
 mod Transfer
-mod TablePlies
 mod LinkPlies
+mod Outcomes
 mod DecidedTables
 mod ExactOver

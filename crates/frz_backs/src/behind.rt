@@ -1,6 +1,7 @@
 //! The exit lines behind the first line `exit unknown if always`.
 
-ghost use Rattle.std.specs.Prelude.{◌≡◌};
+ghost use Rattle.std.specs.Prelude.{◌≡◌, ◌<◌, length, IfSome};
+ghost use Rattle.std.specs.List.{position_from};
 ghost use Rattle.frz_backs.specs.Behind as words;
 
 use frz_exits::is_unknown;
@@ -23,14 +24,20 @@ fn ends_lines(line: &Exit) -> bool
     is_unknown(line.value) && are_always(&line.conds)
 }
 
+/// The place of the first such line.
+fn end_of(lines: &[Exit]) -> Option<usize>
+    ensures place { result ≡ position_from words.ends_lines 0 lines.now }
+    ensures below { IfSome result (λ i. i < length lines.now) }
+{
+    lines.iter().position(|line| ends_lines(line))
+}
+
 /// The lines behind the first such line. There are none where there is no such line.
 pub fn lines_behind(lines: &[Exit]) -> &[Exit]
     ensures { result.now ≡ words.lines_behind lines.now }
 {
-    for (i, line) in lines.iter().enumerate() {
-        if ends_lines(line) {
-            return &lines[i + 1..];
-        }
+    match end_of(lines) {
+        Some(i) => &lines[i + 1..],
+        None => &[],
     }
-    &[]
 }

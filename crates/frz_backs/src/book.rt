@@ -69,7 +69,10 @@ fn value_of(lines: &[Exit], q: &Bitboards) -> Value
     ensures { result ≡ line_value lines.now q.now }
 {
     match fitting_line(lines, q) {
-        Some(i) => lines[i].value,
+        Some(i) => match lines.get(i) {
+            Some(line) => line.value,
+            None => Value::Unknown,
+        },
         None => Value::Unknown,
     }
 }

@@ -3,6 +3,7 @@
 ghost use Rattle.std.specs.Prelude.{◌≡◌, map};
 ghost use Rattle.std.specs.List.{list_all};
 ghost use Rattle.frz_chain.specs.declared.back.BackTable.{BackTable as Table};
+ghost use Rattle.frz_backs.specs.Books.{back_codes};
 ghost use Rattle.frz_backs.specs.Counts as words;
 ghost use Rattle.frz_backs.specs.FileOn.{loaded_back};
 
@@ -33,6 +34,7 @@ fn is_uncounted(value: Value, side: Colour) -> bool
 }
 
 /// Does each exit line by which the side wins say in how many plies?
+#[tactic(auto, unfolding(crate::specs::Counts::lines_count))]
 pub fn lines_count(side: Colour, lines: &[Exit]) -> bool
     ensures { result ≡ words.lines_count side lines.now }
 {
@@ -53,20 +55,27 @@ fn are_short(codes: &[u32]) -> bool
     codes.iter().all(|code| is_short(*code))
 }
 
+/// The table's codes of the side.
+fn codes_of(back: &BackTable, side: Colour) -> &[u32]
+    ensures { result.now ≡ back_codes (loaded_back back.now) side }
+{
+    match side {
+        Colour::White => &back.white,
+        Colour::Black => &back.black,
+    }
+}
+
 /// Do the side's wins in the table count?
 fn counts_for(side: Colour, back: &BackTable) -> bool
     ensures { result ≡ words.counts_for side (loaded_back back.now) }
 {
-    let codes = match side {
-        Colour::White => &back.white,
-        Colour::Black => &back.black,
-    };
-    lines_count(side, &back.table.rules().exits) && are_short(codes)
+    lines_count(side, &back.table.rules().exits) && are_short(codes_of(back, side))
 }
 
 /// Do the side's wins count in all these tables?
-pub fn count_for(side: Colour, backs: &[BackTable]) -> bool
-    ensures { result ≡ words.count_for side (map loaded_back backs.now) }
+fn count_for(side: Colour, backs: &[BackTable]) -> bool
+    ensures { result
+        ≡ list_all (λ back. words.counts_for side (loaded_back back)) backs.now }
 {
     backs.iter().all(|back| counts_for(side, back))
 }

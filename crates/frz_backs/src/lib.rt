@@ -11,5 +11,5 @@ pub mod laws;
 pub use behind::lines_behind;
 pub use book::AtlasBook;
 pub use codes::codes_on;
-pub use counts::{Counts, count_for, lines_count};
+pub use counts::{Counts, lines_count};
 pub use frz_chain::{BackTable, NewTable, ReadRules, build_ruled};

@@ -3,7 +3,7 @@ use Rattle.std.proofs.lemmas.List.{get_or_read_under}
 use Rattle.frz_board.specs.Boards.{Board}
 use Rattle.frz_sets.specs.Views.{GroupLine}
 use Rattle.frz_index.specs.Membership.{number_of}
-use Rattle.frz_chain.specs.FileOn.{loaded_back}
+use Rattle.frz_backs.specs.FileOn.{loaded_back}
 use Rattle.frz_chain.proofs.Lemmas.{number_below}
 use Rattle.frz_backs.specs.Codes.{codes_at}
 use Rattle.frz_backs.proofs.codes.codes_on.Goals as goal
