@@ -144,9 +144,9 @@ atlas_loaded given name behind old mid then new opens same then_same asked calls
       opens = there.1;
       leaning = kind;
       keeps =
-          ap (λ (l : List ℕ). back_with table.rules.groups l given.table.black.items)
+          ap (λ (l : List ℕ). back_with table.rules l given.table.black.items)
           (sym kept.white_is)
-          ∙ ap (λ (l : List ℕ). back_with table.rules.groups (kept_codes contents kept.bytes White)
+          ∙ ap (λ (l : List ℕ). back_with table.rules (kept_codes contents kept.bytes White)
           l) (sym kept.black_is);
       tables = h.tables;
       may_all = subst (λ (o : Option Files). MayHoldAll o behind (all_held h.tables)) same h.may;

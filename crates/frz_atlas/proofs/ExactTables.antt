@@ -11,7 +11,7 @@ exact_over : (before : List Back) (tables : List TableBytes) → AreJudgedOver b
 unfolding AreJudgedOver AreExactOver
 exact_over before [] h = tt
 exact_over before (t ∷ tables) h = (
-  record { set = refl; white = h.1.codes White; black = h.1.codes Black },
+  record { set = refl; lines = refl; white = h.1.codes White; black = h.1.codes Black },
   exact_over (before ++ (back_of t.contents t.bytes ∷ [])) tables h.2,
 )
 

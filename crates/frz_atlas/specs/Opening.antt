@@ -45,7 +45,7 @@ abbrev pub link_with : Table → (white black : List ℕ) → Link
 link_with table white black = record {
   rules = table.rules;
   leans = leans_as table.kind;
-  back = back_with table.rules.groups white black;
+  back = back_with table.rules white black;
 }
 
 -- the name may hold a table that is exact over those before it, and this is that table, with its

@@ -8,25 +8,16 @@ use Rattle.frz_game.specs.Bounds.{IsTableOf}
 use Rattle.frz_table.specs.Opening.{Contents}
 use Rattle.frz_build.specs.Kept.{kept_codes}
 use Rattle.frz_chain.specs.declared.back.BackTable.{BackTable}
-use Rattle.frz_backs.specs.Books.{Back}
+use Rattle.frz_backs.specs.Books.{Back, back_with}
 
 -- the table in these bytes
 abbrev pub back_of : Contents → List ℕ → Back
-back_of contents bytes = record {
-  groups = contents.rules.groups;
-  exits = contents.rules.exits;
-  white = kept_codes contents bytes White;
-  black = kept_codes contents bytes Black;
-}
+back_of contents bytes =
+    back_with contents.rules (kept_codes contents bytes White) (kept_codes contents bytes Black)
 
 -- the table that was loaded
 abbrev pub loaded_back : BackTable → Back
-loaded_back back = record {
-  groups = back.table.rules.groups;
-  exits = back.table.rules.exits;
-  white = back.white.items;
-  black = back.black.items;
-}
+loaded_back back = back_with back.table.rules back.white.items back.black.items
 
 -- the table has the set and the exit lines of these rules, and its codes are the tables of both
 -- sides by the values of a book
