@@ -1,5 +1,6 @@
 -- The lemmas that the crates above cite.
 pub use Rattle.frz_backs.proofs.DecidedTables.{tables_decide}
+pub use Rattle.frz_backs.proofs.DecidingLines.{GivesValue, get_dropped, line_gives, no_line_gives, place_below}
 pub use Rattle.frz_backs.proofs.ExactOver.{outcomes_over}
 pub use Rattle.frz_backs.proofs.FirstValue.{asked_behind, first_of, front_tells, holds_of_atlas_value, lines_alone, none_tell, own_or_told}
 pub use Rattle.frz_backs.proofs.LinkPlies.{mates_within}

@@ -2,6 +2,7 @@ pub mod Lemmas
 mod Told
 mod FirstValue
 mod OwnLines
+mod DecidingLines
 mod LoadedTables
 mod SmallLags
 mod Numbered

@@ -3,6 +3,7 @@ pub mod FileOn
 pub mod Counts
 pub mod Behind
 pub mod Values
+pub mod Lines
 pub mod Links
 pub mod Loaded
 pub mod LinkPlies

@@ -2,10 +2,13 @@
 
 ghost use Rattle.std.specs.Prelude.{◌≡◌, ◌<◌, length, IfSome};
 ghost use Rattle.std.specs.List.{position_from};
+ghost use Rattle.frz_exits.specs.Books.{first_value as line_value};
+ghost use Rattle.frz_fide.specs.Valid.{IsValid};
 ghost use Rattle.frz_backs.specs.Behind as words;
 
-use frz_exits::is_unknown;
-use frz_sets::{Cond, Exit, Test};
+use frz_exits::{fitting_line, is_unknown};
+use frz_fide::Bitboards;
+use frz_sets::{Cond, Exit, Test, Value};
 
 /// Are the conditions the one condition `always`?
 fn are_always(conds: &[Cond]) -> bool
@@ -25,7 +28,7 @@ fn ends_lines(line: &Exit) -> bool
 }
 
 /// The place of the first such line.
-fn end_of(lines: &[Exit]) -> Option<usize>
+pub(crate) fn end_of(lines: &[Exit]) -> Option<usize>
     ensures place { result ≡ position_from words.ends_lines 0 lines.now }
     ensures below { IfSome result (λ i. i < length lines.now) }
 {
@@ -39,5 +42,19 @@ pub fn lines_behind(lines: &[Exit]) -> &[Exit]
     match end_of(lines) {
         Some(i) => &lines[i + 1..],
         None => &[],
+    }
+}
+
+/// The value of the first of these lines that fits.
+pub(crate) fn value_of(lines: &[Exit], q: &Bitboards) -> Value
+    requires { IsValid q.now }
+    ensures { result ≡ line_value lines.now q.now }
+{
+    match fitting_line(lines, q) {
+        Some(i) => match lines.get(i) {
+            Some(line) => line.value,
+            None => Value::Unknown,
+        },
+        None => Value::Unknown,
     }
 }

@@ -10,12 +10,12 @@ ghost use Rattle.frz_backs.specs.Counts.{counts_of};
 ghost use Rattle.frz_backs.specs.FileOn.{loaded_back};
 ghost use Rattle.frz_backs.specs.Values as words;
 
-use crate::behind::lines_behind;
+use crate::behind::{lines_behind, value_of};
 use crate::codes::codes_on;
 use crate::counts::Counts;
 use frz_board::Position;
 use frz_chain::{BackTable, pair_value};
-use frz_exits::{ExitBook, RuleBook, fitting_line};
+use frz_exits::{ExitBook, RuleBook};
 use frz_fide::Bitboards;
 use frz_sets::{Exit, Rules, Value};
 
@@ -60,20 +60,6 @@ fn with_plies(counts: Counts, white: u32, black: u32, value: Value) -> Value
         Value::WhiteWins if counts.white => Value::WhiteWinsIn(white.saturating_sub(2) / 2),
         Value::BlackWins if counts.black => Value::BlackWinsIn(black.saturating_sub(2) / 2),
         _ => value,
-    }
-}
-
-/// The value of the first of these lines that fits.
-fn value_of(lines: &[Exit], q: &Bitboards) -> Value
-    requires { IsValid q.now }
-    ensures { result ≡ line_value lines.now q.now }
-{
-    match fitting_line(lines, q) {
-        Some(i) => match lines.get(i) {
-            Some(line) => line.value,
-            None => Value::Unknown,
-        },
-        None => Value::Unknown,
     }
 }
 

@@ -7,9 +7,10 @@ mod book;
 mod codes;
 mod counts;
 pub mod laws;
+mod lines;
 
-pub use behind::lines_behind;
 pub use book::AtlasBook;
 pub use codes::codes_on;
 pub use counts::{Counts, lines_count};
+pub use lines::line_over;
 pub use frz_chain::{BackTable, NewTable, ReadRules, build_ruled};

@@ -2,7 +2,7 @@ use Rattle.std.proofs.Common.{◌∙◌, ap, sym, arith}
 use Rattle.std.proofs.lemmas.Option.{get_or_from_slice_get, slice_get_within}
 use Rattle.frz_sets.specs.Views.{ExitLine}
 use Rattle.frz_exits.proofs.Lemmas.{first_fits, none_fits}
-use Rattle.frz_backs.proofs.book.value_of.Goals as goal
+use Rattle.frz_backs.proofs.behind.value_of.Goals as goal
 
 pub returns-in-Some-get : goal.returns-in-Some-get
 returns-in-Some-get c =
