@@ -12,19 +12,18 @@ use Rattle.frz_store.specs.Told.{StoreTold, StoreFine, StoreQuiet}
 use Rattle.frz_store.specs.Writes.{Written}
 use Rattle.frz_store.specs.declared.outside.StoreFault.{StoreFault}
 use Rattle.frz_store.specs.declared.outside.StoreFault.TheVariants as store
-use Rattle.frz_table.specs.declared.kind.FileKind.TheVariants.{Atlas}
-use Rattle.frz_table.specs.Layout.{magic_of}
+use Rattle.frz_table.specs.Layout.{kind_by, magic_of}
 use Rattle.frz_backs.specs.Building.{Builds, writing_calls}
 use Rattle.frz_backs.proofs.Lemmas.{builds_after, costs_added, costs_kept, quiet_same}
 use Rattle.frz_backs.specs.Books.{Back}
 use Rattle.frz_backs.specs.BackTable.{BackTable}
-use Rattle.frz_backs.specs.Links.{Link, backs_of}
+use Rattle.frz_backs.specs.Links.{Link, backs_of, value_over}
 use Rattle.frz_backs.specs.Loaded.{link_loaded}
-use Rattle.frz_backs.specs.Values.{atlas_value}
 use Rattle.frz_atlas.specs.Behind.{backs_in}
 use Rattle.frz_atlas.specs.Building.{BuildsAtlas, IsNotBuilt, RefusesToBuild, WithinBuilding, if_read, size_by}
 use Rattle.frz_atlas.specs.Causes.{HasAtlasCause, fault_of, rules_fault}
 use Rattle.frz_atlas.specs.Costs.{WithinAll, bytes_of, calls_of, steps_of}
+use Rattle.frz_atlas.specs.FileOver.{leans_on}
 use Rattle.frz_atlas.specs.Held.{all_held}
 use Rattle.frz_atlas.specs.Opening.{IsOneRefused, OpensAll, RefusesAll}
 use Rattle.frz_atlas.specs.declared.fault.AtlasFault.{AtlasFault}
@@ -56,6 +55,13 @@ within_building text rules helds old mid new steps_before steps_then steps_now a
           (sum_by calls_of helds + writing_calls (size_by x))) accepted) h.calls calls;
     }
 
+-- the one file of the text over these tables was written, or not
+abbrev pub BuildsOver : List ℕ → RuleLines → List Back → List ℕ → Result ℕ StoreFault → StoreTold
+    → StoreTold → Type 0
+BuildsOver text rules backs name result old new =
+    Builds (magic_of (kind_by (leans_on backs))) text rules (value_over (leans_on backs) rules backs)
+    name result old new
+
 module _ (text : List ℕ) (behind : List (List ℕ)) (name : List ℕ) (rules : RuleLines)
     (accepted : rules_of text ≡ Ok rules) (backs : List BackTable) (old mid new : StoreTold)
     (steps_before steps_then steps_now : ℕ) (quiet : StoreQuiet old mid) (fine : StoreFine old mid)
@@ -72,16 +78,18 @@ module _ (text : List ℕ) (behind : List (List ℕ)) (name : List ℕ) (rules :
 
   -- what was written since the tables were asked for is of the one file over them
   over_tables : (used : List Back) (result : Result ℕ StoreFault) → used ≡ backs_of links
-      → Builds (magic_of Atlas) text rules (atlas_value rules used) name result mid new
-      → Builds (magic_of Atlas) text rules (atlas_value rules (backs_in opens.tables)) name result
-      old new
+      → BuildsOver text rules used name result mid new
+      → BuildsOver text rules (backs_in opens.tables) name result old new
   over_tables used result same h =
-      builds_after (magic_of Atlas) text rules (atlas_value rules used) _ name result old mid new
-      (ap (atlas_value rules) (same ∙ kept_backs links opens.tables opens.keeps)) quiet fine h
+      let backs : List Back = backs_in opens.tables in
+      builds_after (magic_of (kind_by (leans_on backs))) text rules
+      (value_over (leans_on backs) rules backs) _ name result old mid new refl quiet fine
+      (subst (λ (l : List Back). BuildsOver text rules l name result mid new)
+      (same ∙ kept_backs links opens.tables opens.keeps) h)
 
   pub atlas_built : (Contains behind name → ⊥) → (size : ℕ) → size ≡ size_of rules.groups
       → (used : List Back) → used ≡ backs_of links
-      → Builds {T = ℕ} (magic_of Atlas) text rules (atlas_value rules used) name (Ok size) mid new
+      → BuildsOver text rules used name (Ok size) mid new
       → BuildsAtlas text behind name old new steps_before steps_now size
   atlas_built apart size sized used same b =
       let h = over_tables used (Ok size) same b in record {
@@ -101,7 +109,7 @@ module _ (text : List ℕ) (behind : List (List ℕ)) (name : List ℕ) (rules :
       }
 
   not_written : (fault : StoreFault)
-      → Builds {T = ℕ} (magic_of Atlas) text rules (atlas_value rules (backs_in opens.tables)) name
+      → BuildsOver text rules (backs_in opens.tables) name
       (Err fault) old new
       → IsNotBuilt text name (all_held opens.tables) old new (fault_of fault)
   not_written store.Failed h = (
@@ -120,7 +128,7 @@ module _ (text : List ℕ) (behind : List (List ℕ)) (name : List ℕ) (rules :
   not_written store.NoMemory h = (inr (rules, accepted), h.written)
 
   pub not_built : (fault : StoreFault) (used : List Back) → used ≡ backs_of links
-      → Builds {T = ℕ} (magic_of Atlas) text rules (atlas_value rules used) name (Err fault) mid new
+      → BuildsOver text rules used name (Err fault) mid new
       → RefusesToBuild text behind name old new steps_before steps_now (fault_of fault)
   not_built fault used same h = record {
     helds = all_held opens.tables;

@@ -1,16 +1,15 @@
 -- What is found of a table over several others, under its name and theirs.
 use Rattle.std.specs.Prelude.{map, sum_by}
-use Rattle.std.proofs.Common.{◌≡◌, ap, subst, ◌∙◌, ℕ, ◌+◌, ◌*◌, ◌≤◌, List, length, Option, Some, Ok, arith}
+use Rattle.std.proofs.Common.{◌≡◌, ap, sym, subst, ◌∙◌, ℕ, ◌+◌, ◌*◌, ◌≤◌, List, length, Bool, Option, Some, Ok, arith}
 use Rattle.std.proofs.lemmas.Simd.{map-map}
 use Rattle.frz_sets.specs.Sets.{size_of}
 use Rattle.frz_store.specs.Files.{Files}
 use Rattle.frz_store.specs.Told.{StoreTold}
 use Rattle.frz_table.specs.declared.fault.TableFault.{TableFault}
 use Rattle.frz_table.specs.declared.kind.FileKind.{FileKind}
-use Rattle.frz_table.specs.declared.kind.FileKind.TheVariants.{Atlas}
 use Rattle.frz_table.specs.Faults.{IsOutside}
-use Rattle.frz_table.specs.Layout.{pieces_of}
-use Rattle.frz_table.specs.Opening.{Contents, Refuses, contents_of, kept_text, opened, opening_calls, table_format}
+use Rattle.frz_table.specs.Layout.{kind_by, pieces_of}
+use Rattle.frz_table.specs.Opening.{Contents, Refuses, contents_of, kept_text, opened, opening_calls, own_format, table_format}
 use Rattle.frz_table.specs.Possible.{MayOpen, MayRefuse}
 use Rattle.frz_table.specs.Tables.{Table, table_size}
 use Rattle.frz_table.proofs.Lemmas.{belongs, opened_calls, outside_refuses, text_kept}
@@ -18,32 +17,32 @@ use Rattle.frz_check.specs.Kept.{ChecksTable, IsVerdictOn, opened_size}
 use Rattle.frz_check.proofs.Lemmas.{file_opens}
 use Rattle.frz_backs.specs.Books.{Back}
 use Rattle.frz_backs.specs.BackTable.{BackTable}
-use Rattle.frz_backs.specs.Links.{Link, backs_of}
-use Rattle.frz_backs.specs.Loaded.{link_loaded}
-use Rattle.frz_backs.specs.Values.{atlas_value}
-use Rattle.frz_atlas.specs.Behind.{TableBytes, backs_in, link_of}
+use Rattle.frz_backs.specs.Links.{Link, backs_of, value_over}
+use Rattle.frz_backs.specs.Loaded.{leans_as, link_loaded}
+use Rattle.frz_atlas.specs.Behind.{TableBytes, backs_in, leans, link_of}
 use Rattle.frz_atlas.specs.Causes.{table_fault}
-use Rattle.frz_atlas.specs.Checking.{ChecksAtlas, IsRefusedAtlas, RefusesAtlas, WithinChecking, own_size, sizes_in}
-use Rattle.frz_atlas.specs.Costs.{WithinAll, bytes_of, calls_of, steps_of}
+use Rattle.frz_atlas.specs.Checking.{ChecksAtlas, IsRefusedAtlas, RefusesAtlas, WithinChecking, sizes_in}
+use Rattle.frz_atlas.specs.Costs.{WithinAll, bytes_of, calls_of, size_held, steps_of}
 use Rattle.frz_atlas.specs.Held.{MayHoldAll, all_held}
-use Rattle.frz_atlas.specs.Opening.{IsOneRefused, OpensAll, RefusesAll}
+use Rattle.frz_atlas.specs.Opening.{IsOneRefused, IsOwnKind, OpensAll, RefusesAll}
 use Rattle.frz_atlas.specs.declared.checking.Checked.{Checked}
 use Rattle.frz_atlas.specs.declared.fault.AtlasFault.{AtlasFault}
 use Rattle.frz_atlas.specs.declared.fault.AtlasFault.TheVariants as atlas
 use Rattle.frz_atlas.proofs.Causes.{by_table}
 use Rattle.frz_atlas.proofs.Several.{may_hold_some, some_helds}
 use Rattle.frz_atlas.proofs.ExactTables.{kept_backs}
+use Rattle.frz_atlas.proofs.OwnKinds.{leans_by, opens_own}
 
 -- a file that is refused is refused as a table
 file_refused : (held : Option (List ℕ)) (behind : List (Option (List ℕ))) (fault : TableFault)
-    → Refuses (opened (table_format Atlas) held) fault
+    → Refuses (opened own_format held) fault
     → IsRefusedAtlas held behind (table_fault fault)
 file_refused held behind =
-    by_table (IsRefusedAtlas held behind) (opened (table_format Atlas) held) tt tt (λ f e. e)
+    by_table (IsRefusedAtlas held behind) (opened own_format held) tt tt (λ f e. e)
 
 -- the table was not opened
 pub not_opened : (table : List ℕ) (behind : List (List ℕ)) (old new : StoreTold) (steps : ℕ)
-    (fault : TableFault) → MayRefuse (table_format Atlas) table old new fault
+    (fault : TableFault) → MayRefuse own_format table old new fault
     → RefusesAtlas table behind old new steps steps (table_fault fault)
 not_opened table behind old new steps fault h =
     let others = some_helds old.files behind in record {
@@ -62,7 +61,7 @@ not_opened table behind old new steps fault h =
 -- what was spent is within the costs of all files
 pub within_all : (bytes : List ℕ) (contents : Contents) (helds : List (Option (List ℕ)))
     (old mid then new : StoreTold) (steps_before steps_then steps_now : ℕ)
-    → opened (table_format Atlas) (Some bytes) ≡ Ok contents
+    → opened own_format (Some bytes) ≡ Ok contents
     → mid.asked ≤ old.asked + (16 + length contents.text) → mid.calls ≤ old.calls + 5
     → WithinAll helds mid then steps_before steps_then
     → new.asked ≤ then.asked + 8 * size_of contents.rules.groups
@@ -71,17 +70,17 @@ pub within_all : (bytes : List ℕ) (contents : Contents) (helds : List (Option 
     → WithinChecking (Some bytes) helds old new steps_before steps_now
 within_all bytes contents helds old mid then new steps_before steps_then steps_now opens asked calls
     h more_asked more_calls steps =
-    let file = belongs (table_format Atlas) bytes contents opens in
+    let file = belongs own_format bytes contents opens in
     let text : length (kept_text bytes) ≡ length contents.text =
     ap (length {A = ℕ}) (text_kept _ contents.text (size_of contents.rules.groups) bytes
     file.file) in
-    let size : own_size (Some bytes) ≡ size_of contents.rules.groups = ap opened_size opens in
+    let size : size_held (Some bytes) ≡ size_of contents.rules.groups = ap opened_size opens in
     record {
-      steps = steps_all (sum_by steps_of helds) (own_size (Some bytes)) size h.steps;
-      asked = asked_all (length (kept_text bytes)) (sum_by bytes_of helds) (own_size (Some bytes))
+      steps = steps_all (sum_by steps_of helds) (size_held (Some bytes)) size h.steps;
+      asked = asked_all (length (kept_text bytes)) (sum_by bytes_of helds) (size_held (Some bytes))
           text size h.asked;
-      calls = calls_all (opening_calls (table_format Atlas) (Some bytes)) (sum_by calls_of helds)
-          (pieces_of (own_size (Some bytes))) (opened_calls (table_format Atlas) bytes contents opens)
+      calls = calls_all (opening_calls own_format (Some bytes)) (sum_by calls_of helds)
+          (pieces_of (size_held (Some bytes))) (opened_calls own_format bytes contents opens)
           (ap pieces_of size) h.calls;
     }
   where
@@ -101,7 +100,7 @@ within_all bytes contents helds old mid then new steps_before steps_then steps_n
 
 -- the table was opened, and one of those behind it refused
 behind_refused : (bytes : List ℕ) (contents : Contents) (helds : List (Option (List ℕ)))
-    (fault : AtlasFault) → opened (table_format Atlas) (Some bytes) ≡ Ok contents
+    (fault : AtlasFault) → opened own_format (Some bytes) ≡ Ok contents
     → IsOneRefused helds fault → IsRefusedAtlas (Some bytes) helds fault
 behind_refused bytes contents helds (atlas.Back place fault) opens h = ((contents, opens), h)
 behind_refused bytes contents helds atlas.Failed opens h = tt
@@ -120,7 +119,7 @@ sizes_behind sizes links tables are keeps =
 -- the table was opened
 module _ (table : Table) (name : List ℕ) (behind : List (List ℕ)) (old mid : StoreTold)
     (steps_before : ℕ)
-    (opens : MayOpen (table_format Atlas) old.files name (contents_of table))
+    (opens : MayOpen own_format old.files name (contents_of table))
     (same : mid.files ≡ old.files) (asked : mid.asked ≤ old.asked + (16 + length table.text))
     (calls : mid.calls ≤ old.calls + 5) where
   pub back_refused : (new : StoreTold) (steps_now : ℕ) (fault : AtlasFault)
@@ -150,7 +149,7 @@ module _ (table : Table) (name : List ℕ) (behind : List (List ℕ)) (old mid :
     held_before = subst (λ (o : Option Files). MayHoldAll o behind (all_held h.tables)) same h.may
 
     within_opened : (bytes : List ℕ)
-        → opened (table_format Atlas) (Some bytes) ≡ Ok (contents_of table)
+        → opened own_format (Some bytes) ≡ Ok (contents_of table)
         → WithinChecking (Some bytes) (all_held h.tables) old new steps_before steps_now
     within_opened bytes given =
         within_all bytes (contents_of table) (all_held h.tables) old mid
@@ -165,35 +164,42 @@ module _ (table : Table) (name : List ℕ) (behind : List (List ℕ)) (old mid :
       helds = all_held h.tables;
       may_all = held_before;
       refuses = file_refused (Some opens.bytes) (all_held h.tables) fault
-          (outside_refuses (opened (table_format Atlas) (Some opens.bytes)) fault outside);
+          (outside_refuses (opened own_format (Some opens.bytes)) fault outside);
       within = within_opened opens.bytes opens.opens;
     }
 
-    pub atlas_checked : then.files ≡ mid.files → table.kind ≡ Atlas → table.name ≡ name
+    pub atlas_checked : then.files ≡ mid.files → IsOwnKind table.kind → table.name ≡ name
         → (c : Checked)
         → c.size ≡ table_size table
         → c.behind.items ≡ map (λ back. size_of back.groups) (backs_of links)
-        → ChecksTable then.files table (atlas_value table.rules (backs_of links)) c.verdict
+        → ChecksTable then.files table
+        (value_over (leans_as table.kind) table.rules (backs_of links)) c.verdict
         → ChecksAtlas name behind old new steps_before steps_now c
     atlas_checked then_same kind named c size sizes told =
+        let b : Bool = leans_as table.kind in
         let contents : Contents = contents_of table in
-        let read = (belongs (table_format Atlas) opens.bytes contents opens.opens).read in
-        let there = file_opens Atlas table name told.bytes old.files then.files (then_same ∙ same)
-        kind named read told.may told.file in
+        let read = (belongs own_format opens.bytes contents opens.opens).read in
+        let there = file_opens (kind_by b) table name told.bytes old.files then.files
+        (then_same ∙ same) kind named read told.may told.file in
+        let leaning : leans told.bytes ≡ b = leans_by b told.bytes
+        (belongs (table_format (kind_by b)) told.bytes contents there.1).file.begins in
+        let opens_so = opens_own b told.bytes contents there.1 in
         record {
           bytes = told.bytes;
           may = there.0;
           contents = contents;
-          opens = there.1;
+          opens = opens_so;
           tables = h.tables;
           may_all = held_before;
           exact = h.exact;
           told =
-              subst (λ (k : FileKind). IsVerdictOn k
-              (atlas_value table.rules (backs_in h.tables)) contents told.bytes c.verdict) kind
-              (subst (λ (b : List Back). IsVerdictOn table.kind (atlas_value table.rules b) contents
-              told.bytes c.verdict) (kept_backs links h.tables h.keeps) told.told);
+              subst (λ (x : Bool). IsVerdictOn (kind_by x) (value_over x table.rules (backs_in h.tables))
+              contents told.bytes c.verdict) (sym leaning)
+              (subst (λ (k : FileKind). IsVerdictOn k (value_over b table.rules (backs_in h.tables))
+              contents told.bytes c.verdict) kind
+              (subst (λ (l : List Back). IsVerdictOn table.kind (value_over b table.rules l) contents
+              told.bytes c.verdict) (kept_backs links h.tables h.keeps) told.told));
           size = size;
           sizes = sizes_behind c.behind.items links h.tables sizes h.keeps;
-          within = within_opened told.bytes there.1;
+          within = within_opened told.bytes opens_so;
         }

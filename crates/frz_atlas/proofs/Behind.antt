@@ -2,12 +2,12 @@
 use Rattle.std.proofs.Common.{◌≡◌, refl, sym, subst, ℕ, List, [], ◌∷◌, ◌++◌, length, Option, append_assoc, append-nil}
 use Rattle.frz_store.specs.Told.{StoreTold}
 use Rattle.frz_table.specs.Numbers.{AreBytes}
-use Rattle.frz_table.specs.Opening.{opened, table_format}
+use Rattle.frz_table.specs.Opening.{opened, own_format}
 use Rattle.frz_check.specs.declared.verdict.Verdict.TheVariants.{Exact}
 use Rattle.frz_backs.specs.Books.{Back}
 use Rattle.frz_backs.specs.FileOn.{back_of}
 use Rattle.frz_backs.specs.BackTable.{BackTable}
-use Rattle.frz_atlas.specs.Behind.{AreJudgedOver, IsJudgedOver, IsRefusedAt, IsRefusedOver, TableBytes, backs_in, kind_held}
+use Rattle.frz_atlas.specs.Behind.{AreJudgedOver, IsJudgedOver, IsRefusedAt, IsRefusedOver, TableBytes, backs_in}
 use Rattle.frz_atlas.specs.Causes.{back_fault}
 use Rattle.frz_atlas.specs.Held.{all_held}
 use Rattle.frz_atlas.specs.Opening.{IsOneRefused, MayBeRefused, OpensAll, OpensOver, RefusesAll}
@@ -98,4 +98,4 @@ refused_next tables place slice fault held rest good many same r =
     refused_for (one.Wrong wrong) k = at (one.Wrong wrong) k
     refused_for (one.Refused f) k =
         by_back (IsOneRefused (all_held tables ++ (held ∷ rest)))
-        (opened (table_format (kind_held held)) held) tt tt place (λ f e. at (one.Refused f) e) f k
+        (opened own_format held) tt tt place (λ f e. at (one.Refused f) e) f k

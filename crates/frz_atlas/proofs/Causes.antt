@@ -3,7 +3,7 @@ use Rattle.std.proofs.Common.{◌≡◌, refl, subst, ℕ, Result, Ok, Err}
 use Rattle.frz_store.specs.Outside.{Rose}
 use Rattle.frz_store.specs.Told.{StoreTold, StoreFine}
 use Rattle.frz_table.specs.declared.fault.TableFault.{TableFault}
-use Rattle.frz_table.specs.declared.fault.TableFault.TheVariants.{Missing, Magic, Truncated, Extra, Rules, Size, Failed, NoMemory}
+use Rattle.frz_table.specs.declared.fault.TableFault.TheVariants.{Missing, Magic, Other, Truncated, Extra, Rules, Size, Failed, NoMemory}
 use Rattle.frz_table.specs.Faults.{TableCauses}
 use Rattle.frz_table.specs.Opening.{Contents, Refuses}
 use Rattle.frz_table.proofs.Lemmas.{fine_after}
@@ -20,6 +20,7 @@ module _ (P : AtlasFault → Type 0) (given : Result Contents TableFault) (faile
       → Refuses given fault → P (table_fault fault)
   by_table k Missing h = k Missing h
   by_table k Magic h = k Magic h
+  by_table k (Other o) h = k (Other o) h
   by_table k (Truncated n due) h = k (Truncated n due) h
   by_table k (Extra n due) h = k (Extra n due) h
   by_table k (Rules f) h = k (Rules f) h
@@ -32,6 +33,7 @@ module _ (P : AtlasFault → Type 0) (given : Result Contents TableFault) (faile
       → (fault : TableFault) → Refuses given fault → P (back_fault place (one.Refused fault))
   by_back place k Missing h = k Missing h
   by_back place k Magic h = k Magic h
+  by_back place k (Other o) h = k (Other o) h
   by_back place k (Truncated n due) h = k (Truncated n due) h
   by_back place k (Extra n due) h = k (Extra n due) h
   by_back place k (Rules f) h = k (Rules f) h
@@ -47,6 +49,7 @@ file_cause T (Err Failed) old new h = h.failed refl
 file_cause T (Err NoMemory) old new h = tt
 file_cause T (Err Missing) old new h = record { faults = h.refused; wants = h.wants_refused }
 file_cause T (Err Magic) old new h = record { faults = h.refused; wants = h.wants_refused }
+file_cause T (Err (Other o)) old new h = record { faults = h.refused; wants = h.wants_refused }
 file_cause T (Err (Truncated n due)) old new h =
     record { faults = h.refused; wants = h.wants_refused }
 file_cause T (Err (Extra n due)) old new h = record { faults = h.refused; wants = h.wants_refused }
@@ -60,6 +63,7 @@ file_later Failed old mid new fine h = subst (λ (n : ℕ). Rose n new.faults) f
 file_later NoMemory old mid new fine h = tt
 file_later Missing old mid new fine h = fine_after old mid new fine h
 file_later Magic old mid new fine h = fine_after old mid new fine h
+file_later (Other o) old mid new fine h = fine_after old mid new fine h
 file_later (Truncated n due) old mid new fine h = fine_after old mid new fine h
 file_later (Extra n due) old mid new fine h = fine_after old mid new fine h
 file_later (Rules f) old mid new fine h = fine_after old mid new fine h
@@ -79,6 +83,7 @@ atlas_cause T U place (one.Refused fault) old mid new fine h =
     at NoMemory k = tt
     at Missing k = k
     at Magic k = k
+    at (Other o) k = k
     at (Truncated n due) k = k
     at (Extra n due) k = k
     at (Rules f) k = k

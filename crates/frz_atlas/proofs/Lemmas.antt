@@ -3,6 +3,6 @@ pub use Rattle.frz_atlas.proofs.AtlasLoaded.{own_refused}
 pub use Rattle.frz_atlas.proofs.Causes.{atlas_cause, atlas_later}
 pub use Rattle.frz_atlas.proofs.ExactTables.{judged_exact, kept_backs, links_backs}
 pub use Rattle.frz_atlas.proofs.LoadedAll.{unopened_below}
-pub use Rattle.frz_atlas.proofs.OwnKinds.{opens_own}
+pub use Rattle.frz_atlas.proofs.OwnKinds.{as_own, leans_by, of_own, opens_own, own_kind}
 pub use Rattle.frz_atlas.proofs.Several.{may_hold_some, some_helds}
 pub use Rattle.frz_backs.proofs.Lemmas.{over_small}

@@ -11,7 +11,7 @@ use Rattle.frz_sets.specs.Views.{RuleLines}
 use Rattle.frz_store.specs.Told.{StoreTold}
 use Rattle.frz_table.proofs.Lemmas.{belongs}
 use Rattle.frz_table.specs.declared.fault.TableFault.{TableFault}
-use Rattle.frz_table.specs.Opening.{Contents, contents_of, table_format}
+use Rattle.frz_table.specs.Opening.{Contents, contents_of, own_format}
 use Rattle.frz_table.specs.Tables.{table_size}
 use Rattle.frz_check.proofs.Lemmas.{same_verdict, verdict_on}
 use Rattle.frz_check.specs.declared.verdict.Verdict.{Verdict}
@@ -28,6 +28,7 @@ use Rattle.frz_atlas.specs.Costs.{WithinOne}
 use Rattle.frz_atlas.specs.Loading.{LoadsOne, RefusesOne}
 use Rattle.frz_atlas.specs.Opening.{OpensOver, RefusesOver}
 use Rattle.frz_atlas.specs.declared.fault.BackFault.TheVariants as one
+use Rattle.frz_atlas.proofs.OwnKinds.{of_own}
 
 -- it was not loaded
 pub not_found : (before : List Back) (name : List ℕ) (old new : StoreTold) (steps : ℕ)
@@ -73,7 +74,7 @@ module _ (before : List Back) (name : List ℕ) (given : BackTable) (v : Verdict
   judged : IsJudgedOver before table v
   judged =
       let read : rules_of contents.text ≡ Ok rules =
-      (belongs (table_format (kind_of h.bytes)) h.bytes contents h.opens).read in
+      (belongs own_format h.bytes contents h.opens).read in
       let value = value_over (leans h.bytes) rules before in
       record {
         opens = h.opens;
@@ -82,7 +83,7 @@ module _ (before : List Back) (name : List ℕ) (given : BackTable) (v : Verdict
             (table_exact rules value)
             (plies_few rules value (over_small (leans h.bytes) rules before
             (text_sound contents.text rules read)))
-            read h.opens on_codes;
+            read (of_own h.bytes contents h.opens) on_codes;
       }
 
   within : WithinOne (Some h.bytes) old new steps_before steps_now

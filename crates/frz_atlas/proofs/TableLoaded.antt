@@ -8,7 +8,7 @@ use Rattle.frz_store.specs.Told.{StoreTold}
 use Rattle.frz_table.specs.declared.fault.TableFault.{TableFault}
 use Rattle.frz_table.specs.Faults.{IsOutside}
 use Rattle.frz_table.specs.Layout.{kind_by, pieces_of}
-use Rattle.frz_table.specs.Opening.{Contents, contents_of, kept_text, table_format}
+use Rattle.frz_table.specs.Opening.{Contents, contents_of, kept_text, own_format, table_format}
 use Rattle.frz_table.specs.Possible.{MayKeep}
 use Rattle.frz_table.specs.Tables.{Table, table_size}
 use Rattle.frz_table.proofs.Lemmas.{belongs, held_bytes, outside_refuses, text_kept}
@@ -18,7 +18,7 @@ use Rattle.frz_backs.specs.FileOn.{back_of}
 use Rattle.frz_backs.specs.BackTable.{BackTable}
 use Rattle.frz_backs.specs.Links.{Link}
 use Rattle.frz_backs.specs.Loaded.{leans_as}
-use Rattle.frz_atlas.specs.Behind.{kind_of, leans, link_of}
+use Rattle.frz_atlas.specs.Behind.{leans, link_of}
 use Rattle.frz_atlas.specs.Costs.{size_held}
 use Rattle.frz_atlas.specs.Loading.{LoadsOne, RefusesOne, WithinLoadingOne, opened_own}
 use Rattle.frz_atlas.specs.Opening.{IsOwnKind, MayOpenOwn, MayRefuseOwn, link_with}
@@ -43,7 +43,7 @@ within_loading : (bytes : List ℕ) (contents : Contents) (old mid new : StoreTo
 within_loading bytes contents old mid new opens asked calls more_asked more_calls =
     let size : ℕ = size_of contents.rules.groups in
     let is : size_held (Some bytes) ≡ size = ap opened_size opens in
-    let file = belongs (table_format (kind_of bytes)) bytes contents opens in
+    let file = belongs own_format bytes contents opens in
     let text : length (kept_text bytes) ≡ length contents.text = ap (length {A = ℕ})
     (text_kept _ contents.text size bytes file.file) in
     let pieces : pieces_of (size_held (Some bytes)) ≡ pieces_of size = ap pieces_of is in
@@ -57,7 +57,7 @@ abbrev leaning_in : Contents → List ℕ → Bool → Link
 leaning_in contents bytes b =
     record { rules = contents.rules; leans = b; back = back_of contents bytes }
 
-link_kept : (table : Table) (white black bytes : List ℕ) → leans bytes ≡ leans_as table.kind
+pub link_kept : (table : Table) (white black bytes : List ℕ) → leans bytes ≡ leans_as table.kind
     → white ≡ kept_codes (contents_of table) bytes White
     → black ≡ kept_codes (contents_of table) bytes Black
     → link_with table white black ≡ link_of (record { bytes = bytes; contents = contents_of table })
@@ -96,7 +96,7 @@ loaded_one given name old mid new are kept same kind named may asked calls more_
     let b : Bool = leans_as table.kind in
     let contents : Contents = contents_of table in
     let read : rules_of table.text ≡ Ok table.rules =
-    (belongs (table_format (kind_of may.bytes)) may.bytes contents may.opens).read in
+    (belongs own_format may.bytes contents may.opens).read in
     let there = file_opens (kind_by b) table name kept.bytes old.files mid.files same kind named
     read kept.may kept.file in
     let begins = (belongs (table_format (kind_by b)) kept.bytes contents there.1).file.begins in

@@ -1,12 +1,12 @@
 -- Files of tables that stand behind another, from the left: each may lean on those before it.
-use Rattle.std.specs.Prelude.{◌≡◌, ℕ, zero, suc, List, [], ◌∷◌, ◌++◌, map, take, Bool, Option, None, Some, Ok, Err, ⊤}
+use Rattle.std.specs.Prelude.{◌≡◌, ℕ, zero, suc, List, [], ◌∷◌, ◌++◌, map, take, Bool, Option, Some, Ok, Err, ⊤}
 use Rattle.std.specs.Str.{bytes_eq}
 use Rattle.frz_check.specs.Wrong.{Wrong as WrongEntry}
 use Rattle.frz_table.specs.declared.kind.FileKind.{FileKind}
-use Rattle.frz_table.specs.declared.kind.FileKind.TheVariants.{Plain, Atlas}
+use Rattle.frz_table.specs.declared.kind.FileKind.TheVariants.{Atlas}
 use Rattle.frz_table.specs.Layout.{kind_by, magic_of}
 use Rattle.frz_table.specs.Numbers.{AreBytes}
-use Rattle.frz_table.specs.Opening.{Contents, opened, table_format}
+use Rattle.frz_table.specs.Opening.{Contents, opened, own_format}
 use Rattle.frz_check.specs.declared.verdict.Verdict.{Verdict}
 use Rattle.frz_check.specs.declared.verdict.Verdict.TheVariants as verdicts
 use Rattle.frz_check.specs.Kept.{IsVerdictOn, kept_codes}
@@ -24,10 +24,6 @@ leans bytes = bytes_eq (take 8 bytes) (magic_of Atlas)
 -- the kind as which bytes are opened
 abbrev pub kind_of : List ℕ → FileKind
 kind_of bytes = kind_by (leans bytes)
-
-abbrev pub kind_held : Option (List ℕ) → FileKind
-kind_held None = Plain
-kind_held (Some bytes) = kind_of bytes
 
 -- the bytes of a table file, with the text and the rules in them
 pub record TableBytes : Type 0 where
@@ -50,7 +46,7 @@ backs_in tables = map (λ t. back_of t.contents t.bytes) tables
 -- nothing. Where the file holds only bytes (numbers below 256), the verdict also says whether it is
 -- the one file of its text
 pub record IsJudgedOver (before : List Back) (table : TableBytes) (verdict : Verdict) : Type 0 where
-  pub opens : opened (table_format (kind_of table.bytes)) (Some table.bytes) ≡ Ok table.contents
+  pub opens : opened own_format (Some table.bytes) ≡ Ok table.contents
   pub codes : IsVerdict table.contents.rules
       (value_over (leans table.bytes) table.contents.rules before)
       (kept_codes table.contents table.bytes) verdict
@@ -76,7 +72,7 @@ pub record HasWrongOver (before : List Back) (held : Option (List ℕ)) (wrong :
 
 -- what a name holds is refused for this reason, as a table over those before it
 abbrev pub IsRefusedOver : List Back → Option (List ℕ) → BackFault → Type 0
-IsRefusedOver before held (Refused fault) = opened (table_format (kind_held held)) held ≡ Err fault
+IsRefusedOver before held (Refused fault) = opened own_format held ≡ Err fault
 IsRefusedOver before held (Wrong wrong) = HasWrongOver before held wrong
 
 -- of what the names hold, from the left, the one at this place is refused for this reason, and all

@@ -2,14 +2,13 @@
 use Rattle.std.specs.Prelude.{ℕ, ◌+◌, ◌*◌, ◌≤◌, List, length, sum_by, Option}
 use Rattle.frz_store.specs.Told.{StoreTold}
 use Rattle.frz_table.specs.Layout.{pieces_of}
-use Rattle.frz_table.specs.Opening.{opened, table_format}
+use Rattle.frz_table.specs.Opening.{opened, own_format}
 use Rattle.frz_table.specs.Possible.{held_text}
 use Rattle.frz_check.specs.Kept.{opened_size}
-use Rattle.frz_atlas.specs.Behind.{kind_held}
 
 -- how many numbers the table has, and 0 where the file is refused
 abbrev pub size_held : Option (List ℕ) → ℕ
-size_held held = opened_size (opened (table_format (kind_held held)) held)
+size_held held = opened_size (opened own_format held)
 
 -- the costs of one file. Steps: one for each number. Bytes: the text, two codes a number, and at
 -- most 24 more. Calls: those that load the codes, and at most seven that look at how the file

@@ -4,12 +4,12 @@ use Rattle.std.specs.Option.{unwrap_or}
 use Rattle.frz_store.specs.Told.{StoreTold}
 use Rattle.frz_table.specs.declared.fault.TableFault.{TableFault}
 use Rattle.frz_table.specs.Numbers.{AreBytes}
-use Rattle.frz_table.specs.Opening.{Contents, Refuses, contents_of, opened, table_format}
+use Rattle.frz_table.specs.Opening.{Contents, Refuses, contents_of, opened, own_format}
 use Rattle.frz_table.specs.Possible.{MayHold}
 use Rattle.frz_backs.specs.BackTable.{BackTable}
 use Rattle.frz_backs.specs.Links.{Link}
 use Rattle.frz_backs.specs.Loaded.{link_loaded}
-use Rattle.frz_atlas.specs.Behind.{TableBytes, kind_held, link_of}
+use Rattle.frz_atlas.specs.Behind.{TableBytes, link_of}
 use Rattle.frz_atlas.specs.Costs.{bytes_of, calls_of}
 use Rattle.frz_atlas.specs.Held.{MayHoldAll, all_held}
 use Rattle.frz_atlas.specs.declared.fault.AtlasFault.{AtlasFault}
@@ -18,7 +18,7 @@ use Rattle.frz_atlas.specs.declared.fault.BackFault.TheVariants.{Refused, Wrong}
 
 -- what is held, opened as its own kind
 abbrev pub opened_own : Option (List ℕ) → Result Contents TableFault
-opened_own held = opened (table_format (kind_held held)) held
+opened_own held = opened own_format held
 
 -- a table before those of the other files; a file that is refused there has one more before it
 abbrev pub in_front : TableBytes → Result (List TableBytes) (ℕ × TableFault)

@@ -6,7 +6,7 @@ use Rattle.frz_table.specs.declared.fault.TableFault.{TableFault}
 use Rattle.frz_table.specs.declared.kind.FileKind.{FileKind}
 use Rattle.frz_table.specs.Layout.{kind_by}
 use Rattle.frz_table.specs.Numbers.{AreBytes}
-use Rattle.frz_table.specs.Opening.{Contents, Refuses, opened, table_format}
+use Rattle.frz_table.specs.Opening.{Contents, Refuses, opened, own_format}
 use Rattle.frz_table.specs.Possible.{MayHold, held_text}
 use Rattle.frz_table.specs.Tables.{Table}
 use Rattle.frz_check.specs.declared.verdict.Verdict.TheVariants.{Exact}
@@ -14,7 +14,7 @@ use Rattle.frz_backs.specs.Books.{Back, back_with}
 use Rattle.frz_backs.specs.BackTable.{BackTable}
 use Rattle.frz_backs.specs.Links.{Link}
 use Rattle.frz_backs.specs.Loaded.{leans_as, link_loaded}
-use Rattle.frz_atlas.specs.Behind.{AreJudged, HasWrongOver, IsJudgedOver, IsRefusedAt, TableBytes, kind_held, kind_of, link_of}
+use Rattle.frz_atlas.specs.Behind.{AreJudged, HasWrongOver, IsJudgedOver, IsRefusedAt, TableBytes, link_of}
 use Rattle.frz_atlas.specs.Costs.{WithinAll, WithinOne}
 use Rattle.frz_atlas.specs.Held.{MayHoldAll, all_held}
 use Rattle.frz_atlas.specs.declared.fault.AtlasFault.{AtlasFault}
@@ -30,14 +30,14 @@ IsOwnKind kind = kind ≡ kind_by (leans_as kind)
 pub record MayOpenOwn (files : Option Files) (name : List ℕ) (contents : Contents) : Type 0 where
   pub bytes : List ℕ
   pub may : MayHold files name (Some bytes)
-  pub opens : opened (table_format (kind_of bytes)) (Some bytes) ≡ Ok contents
+  pub opens : opened own_format (Some bytes) ≡ Ok contents
 
 -- the name may hold what is refused for this reason as its own kind, and no more bytes were asked
 -- for than it takes to open it
 pub record MayRefuseOwn (name : List ℕ) (old new : StoreTold) (fault : TableFault) : Type 0 where
   pub held : Option (List ℕ)
   pub may : MayHold old.files name held
-  pub refuses : Refuses (opened (table_format (kind_held held)) held) fault
+  pub refuses : Refuses (opened own_format held) fault
   pub asked : new.asked ≤ old.asked + (24 + length (held_text held))
 
 -- the open table with these codes, with its rules and whether it leans on those before it
@@ -64,7 +64,7 @@ pub record OpensOver (before : List Back) (name : List ℕ) (given : BackTable) 
 -- ran out
 abbrev pub MayBeRefused : List Back → Option (List ℕ) → BackFault → Type 0
 MayBeRefused before held (one.Refused fault) =
-    Refuses (opened (table_format (kind_held held)) held) fault
+    Refuses (opened own_format held) fault
 MayBeRefused before held (one.Wrong wrong) = HasWrongOver before held wrong
 
 pub record RefusesOver (before : List Back) (name : List ℕ) (old new : StoreTold)

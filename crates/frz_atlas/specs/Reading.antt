@@ -2,17 +2,14 @@
 use Rattle.std.specs.Prelude.{◌≡◌, ◌≤◌, ◌+◌, ◌*◌, ℕ, List, length, map, sum_by, Option, Some, Result, Ok, Err, ⊤}
 use Rattle.frz_store.specs.Told.{StoreTold}
 use Rattle.frz_table.specs.declared.fault.TableFault.{TableFault}
-use Rattle.frz_table.specs.declared.kind.FileKind.TheVariants.{Atlas}
 use Rattle.frz_table.specs.Layout.{pieces_of}
-use Rattle.frz_table.specs.Opening.{Contents, contents_of, opened, opening_calls, table_format}
+use Rattle.frz_table.specs.Opening.{Contents, contents_of, opened, opening_calls, own_format}
 use Rattle.frz_table.specs.Possible.{MayHold, held_text}
-use Rattle.frz_backs.specs.FileOn.{back_of, loaded_back}
 use Rattle.frz_backs.specs.Loaded.{link_loaded}
 use Rattle.frz_atlas.specs.Behind.{TableBytes, link_of}
-use Rattle.frz_atlas.specs.Checking.{own_size}
-use Rattle.frz_atlas.specs.Costs.{bytes_of, calls_of}
+use Rattle.frz_atlas.specs.Costs.{bytes_of, calls_of, size_held}
 use Rattle.frz_atlas.specs.Held.{MayHoldAll, all_held}
-use Rattle.frz_atlas.specs.Loading.{opened_all}
+use Rattle.frz_atlas.specs.Loading.{opened_all, opened_own}
 use Rattle.frz_atlas.specs.declared.fault.AtlasFault.{AtlasFault}
 use Rattle.frz_atlas.specs.declared.fault.AtlasFault.TheVariants.{Rules, Table, Back, Failed, NoMemory}
 use Rattle.frz_atlas.specs.declared.fault.BackFault.TheVariants.{Refused, Wrong}
@@ -22,20 +19,20 @@ use Rattle.frz_atlas.specs.declared.reading.LoadedAtlas.{LoadedAtlas}
 pub record WithinReading (held : Option (List ℕ)) (behind : List (Option (List ℕ)))
     (old new : StoreTold) : Type 0 where
   pub asked : new.asked ≤
-      old.asked + (16 + length (held_text held) + 8 * own_size held + sum_by bytes_of behind)
+      old.asked + (16 + length (held_text held) + 8 * size_held held + sum_by bytes_of behind)
   pub calls : new.calls ≤
-      old.calls + (opening_calls (table_format Atlas) held + 2 * pieces_of (own_size held)
+      old.calls + (opening_calls own_format held + 2 * pieces_of (size_held held)
       + sum_by calls_of behind)
 
--- the name may hold a table that leans on others, the names behind may hold tables, and these are
--- they, with their codes; of those behind also whether they lean on those before them
+-- the name may hold a table, the names behind may hold tables, and these are they, with their codes
+-- and their rules, and whether they lean on others
 pub record LoadsAtlas (table : List ℕ) (behind : List (List ℕ)) (old new : StoreTold)
     (loaded : LoadedAtlas) : Type 0 where
   pub bytes : List ℕ
   pub may : MayHold old.files table (Some bytes)
-  pub opens : opened (table_format Atlas) (Some bytes) ≡ Ok (contents_of loaded.table.table)
-  pub leaning : loaded.table.table.kind ≡ Atlas
-  pub keeps : loaded_back loaded.table ≡ back_of (contents_of loaded.table.table) bytes
+  pub opens : opened own_format (Some bytes) ≡ Ok (contents_of loaded.table.table)
+  pub keeps : link_loaded loaded.table
+      ≡ link_of (record { bytes = bytes; contents = contents_of loaded.table.table })
   pub tables : List TableBytes
   pub may_all : MayHoldAll old.files behind (all_held tables)
   pub all_open : opened_all (all_held tables) ≡ Ok tables
@@ -61,5 +58,5 @@ pub record RefusesToRead (table : List ℕ) (behind : List (List ℕ)) (old new 
   pub may : MayHold old.files table held
   pub helds : List (Option (List ℕ))
   pub may_all : MayHoldAll old.files behind helds
-  pub refuses : IsUnopened (opened (table_format Atlas)) held helds fault
+  pub refuses : IsUnopened opened_own held helds fault
   pub within : WithinReading held helds old new

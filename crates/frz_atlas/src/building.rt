@@ -1,19 +1,20 @@
-//! Builds a table over several others.
+//! Builds a table over several others, or over none.
 ghost use Rattle.std.specs.Prelude.{◌≡◌, ◌≤◌, ◌<◌, ◌+◌, ◌*◌, ◌^◌, length, map, Contains, IfOk, IfErr, OnOk};
 ghost use Rattle.std.specs.String.{string_bytes};
 ghost use Rattle.frz_sets.specs.Sets.{size_of};
 ghost use Rattle.frz_sets.specs.Sound.{IsSound};
 ghost use Rattle.frz_store.specs.Told.{store_of};
-ghost use Rattle.frz_table.specs.declared.kind.FileKind.TheVariants.{Atlas};
-ghost use Rattle.frz_table.specs.Layout.{magic_of};
+ghost use Rattle.frz_table.specs.Layout.{kind_by, magic_of};
 ghost use Rattle.frz_backs.specs.Building.{Builds, writing_calls};
-ghost use Rattle.frz_backs.specs.Values.{atlas_value};
+ghost use Rattle.frz_backs.specs.Links.{value_over};
 ghost use Rattle.frz_backs.specs.FileOn.{loaded_back};
 ghost use Rattle.frz_atlas.specs.Building.{BuildsAtlas, RefusesToBuild};
 ghost use Rattle.frz_atlas.specs.Causes.{HasAtlasCause};
+ghost use Rattle.frz_atlas.specs.FileOver.{leans_on};
 
 use crate::{AtlasFault, open_behind};
 use frz_backs::{AtlasBook, BackTable, NewTable, ReadRules, build_ruled};
+use frz_check::RuleBook;
 use frz_rules::read_rules;
 use frz_steps::Steps;
 use frz_store::{Store, StoreFault};
@@ -22,7 +23,7 @@ use std::alloc::Global;
 use std::sync::ledger::Ledger;
 
 /// Solves the rules over the tables `backs`, writes the table file under the name, and returns its
-/// size (how many numbers it has). All memory is taken before the file is created. A file that has
+/// size (how many numbers it has). Over no table the file is a plain one. All memory is taken before the file is created. A file that has
 /// the name already is replaced.
 pub fn build_over<S: Store, L: Ledger>(
     alloc: Global,
@@ -35,8 +36,9 @@ pub fn build_over<S: Store, L: Ledger>(
     requires sound { IsSound read.now.rules.now }
     requires text { length read.now.text.now < 2 ^ 32 }
     ensures size { IfOk result (λ size. size ≡ size_of read.now.rules.now.groups) }
-    ensures built { Builds (magic_of Atlas) read.now.text.now read.now.rules.now
-        (atlas_value read.now.rules.now (map loaded_back backs.now)) name.now result
+    ensures built { Builds (magic_of (kind_by (leans_on (map loaded_back backs.now))))
+        read.now.text.now read.now.rules.now (value_over (leans_on (map loaded_back backs.now))
+        read.now.rules.now (map loaded_back backs.now)) name.now result
         (store_of S.Store store.old) (store_of S.Store store.new) }
     ensures room { OnOk result (S.room store.new ≡ 0) }
     ensures asked { S.asked store.new ≡ S.asked store.old }
@@ -45,19 +47,16 @@ pub fn build_over<S: Store, L: Ledger>(
     ensures cost { steps.new ≤ steps.old + 4 * size_of read.now.rules.now.groups }
     ensures later { steps.old ≤ steps.new }
 {
-    let file = NewTable {
-        name,
-        kind: FileKind::Atlas,
-        text: read.text,
-    };
-    build_ruled(
-        alloc,
-        read.rules,
-        &AtlasBook::new(read.rules, backs),
-        &file,
-        store,
-        steps,
-    )
+    let rules = read.rules;
+    let text = read.text;
+    if backs.is_empty() {
+        let kind = FileKind::Plain;
+        let file = NewTable { name, kind, text };
+        return build_ruled(alloc, rules, &RuleBook::new(rules), &file, store, steps);
+    }
+    let kind = FileKind::Atlas;
+    let file = NewTable { name, kind, text };
+    build_ruled(alloc, rules, &AtlasBook::new(rules, backs), &file, store, steps)
 }
 
 /// Reads the rules of the text, then opens and checks the tables behind from the left, and writes

@@ -1,22 +1,29 @@
-//! Checks a table over several others.
-ghost use Rattle.std.specs.Prelude.{◌≡◌, ◌≤◌, map, IfOk, IfErr};
+//! Checks a table and those behind it.
+ghost use Rattle.std.specs.Prelude.{◌≡◌, ◌≤◌, ◌+◌, ◌*◌, map, IfOk, IfErr};
 ghost use Rattle.std.specs.String.{string_bytes};
 ghost use Rattle.frz_sets.specs.Sets.{size_of};
 ghost use Rattle.frz_store.specs.Told.{store_of, StoreQuiet};
+ghost use Rattle.frz_table.specs.Faults.{IsOutside, TableCauses};
+ghost use Rattle.frz_table.specs.Layout.{pieces_of};
+ghost use Rattle.frz_table.specs.Tables.{Carries, table_size};
+ghost use Rattle.frz_check.specs.Kept.{ChecksTable};
+ghost use Rattle.frz_backs.specs.FileOn.{loaded_back};
+ghost use Rattle.frz_backs.specs.Links.{value_over};
+ghost use Rattle.frz_backs.specs.Loaded.{leans_as};
 ghost use Rattle.frz_atlas.specs.Causes.{HasAtlasCause};
 ghost use Rattle.frz_atlas.specs.Checking.{ChecksAtlas, RefusesAtlas};
 
 use crate::{AtlasFault, open_behind};
 use frz_backs::{AtlasBook, BackTable};
-use frz_check::{Verdict, check_kept};
+use frz_check::{RuleBook, Verdict, check_kept};
 use frz_steps::Steps;
 use frz_store::Store;
-use frz_table::{FileKind, open_kind};
+use frz_table::{FileKind, TableFault, TableFile, open_own};
 use std::alloc::{AllocError, Global};
 use std::sync::ledger::Ledger;
 
-/// What a check says of a table over several others: the verdict on it, its size (how many numbers
-/// it has), and the size of each table behind it.
+/// What a check says of a table: the verdict on it, its size (how many numbers it has), and the size
+/// of each table behind it.
 #[derive(Drop)]
 pub struct Checked {
     pub verdict: Verdict,
@@ -36,8 +43,35 @@ fn sizes_of(alloc: Global, backs: &[BackTable]) -> Result<Vec<u32>, AllocError>
     Ok(sizes)
 }
 
+/// Loads the codes of an open table and checks them, over these tables where it leans on them.
+fn check_over<S: Store, L: Ledger>(
+    alloc: Global,
+    table: &TableFile,
+    backs: &[BackTable],
+    store: &mut S,
+    steps: &mut Steps<L>,
+) -> Result<Verdict, TableFault>
+    requires { Carries (S.files store.old) table.now }
+    ensures verdict { IfOk result (ChecksTable (S.files store.old) table.now
+        (value_over (leans_as table.now.kind) table.now.rules (map loaded_back backs.now))) }
+    ensures outside { IfErr result IsOutside }
+    ensures quiet { StoreQuiet (store_of S.Store store.old) (store_of S.Store store.new) }
+    ensures asked { S.asked store.new ≤ S.asked store.old + 8 * table_size table.now }
+    ensures calls { S.calls store.new ≤ S.calls store.old + 2 * pieces_of (table_size table.now) }
+    ensures steps { steps.new ≤ steps.old + table_size table.now }
+    ensures later { steps.old ≤ steps.new }
+    ensures causes { TableCauses (S.faults store.old) (S.faults store.new)
+        (S.wants store.old) (S.wants store.new) result }
+{
+    let rules = table.rules();
+    match table.kind() {
+        FileKind::Atlas => check_kept(alloc, table, store, &AtlasBook::new(rules, backs), steps),
+        _ => check_kept(alloc, table, store, &RuleBook::new(rules), steps),
+    }
+}
+
 /// Opens the table, then the tables behind it from the left, each of which is checked over those
-/// before it. At last checks the table over all of them. Names may be equal.
+/// before it. At last checks the table, over all of them where it leans on them. Names may be equal.
 pub fn check_atlas<S: Store, L: Ledger>(
     alloc: Global,
     store: &mut S,
@@ -53,14 +87,13 @@ pub fn check_atlas<S: Store, L: Ledger>(
     ensures later { steps.old ≤ steps.new }
     ensures cause { HasAtlasCause result (store_of S.Store store.old) (store_of S.Store store.new) }
 {
-    let opened = match open_kind(alloc, store, table, FileKind::Atlas) {
+    let opened = match open_own(alloc, store, table) {
         Ok(opened) => opened,
         Err(fault) => return Err(AtlasFault::of_table(fault)),
     };
     let backs = open_behind(alloc, store, behind, steps)?;
     let sizes = sizes_of(alloc, &backs)?;
-    let book = AtlasBook::new(opened.rules(), &backs);
-    match check_kept(alloc, &opened, store, &book, steps) {
+    match check_over(alloc, &opened, &backs, store, steps) {
         Ok(verdict) => Ok(Checked {
             verdict,
             size: opened.set().size(),

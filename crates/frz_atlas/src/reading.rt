@@ -1,4 +1,4 @@
-//! Loads a table over several others with all of them.
+//! Loads a table with those behind it.
 ghost use Rattle.std.specs.Prelude.{◌≡◌, map, IfOk, IfErr};
 ghost use Rattle.std.specs.String.{string_bytes};
 ghost use Rattle.frz_store.specs.Told.{store_of, StoreQuiet};
@@ -9,10 +9,10 @@ use crate::AtlasFault;
 use crate::loading::load_behind;
 use frz_backs::BackTable;
 use frz_store::Store;
-use frz_table::{FileKind, open_kind};
+use frz_table::open_own;
 use std::alloc::Global;
 
-/// A table over several others, and these, from the left, each with its codes.
+/// A table and those behind it, from the left, each with its codes.
 pub struct LoadedAtlas {
     pub table: BackTable,
     pub backs: Vec<BackTable>,
@@ -24,8 +24,8 @@ impl Drop for LoadedAtlas {
     }
 }
 
-/// Opens the table, then opens and loads the tables behind it from the left, each as its own kind,
-/// and at last loads the table's codes. No code is checked. Names may be equal.
+/// Opens the table, then opens and loads the tables behind it from the left, and at last loads the
+/// table's codes. Each is opened as its own kind. No code is checked. Names may be equal.
 pub fn load_atlas<S: Store>(
     alloc: Global,
     store: &mut S,
@@ -39,7 +39,7 @@ pub fn load_atlas<S: Store>(
     ensures quiet { StoreQuiet (store_of S.Store store.old) (store_of S.Store store.new) }
     ensures cause { HasAtlasCause result (store_of S.Store store.old) (store_of S.Store store.new) }
 {
-    let opened = match open_kind(alloc, store, table, FileKind::Atlas) {
+    let opened = match open_own(alloc, store, table) {
         Ok(opened) => opened,
         Err(fault) => return Err(AtlasFault::of_table(fault)),
     };

@@ -10,6 +10,7 @@ pub use Rattle.frz_atlas_prelude.proofs.HeldNames.{
   place_below,
   without_second,
 }
+pub use Rattle.frz_atlas_prelude.proofs.OwnRefused.{own_refused_means}
 pub use Rattle.frz_atlas_prelude.proofs.HeldTable.{Holds, apart_names_hold}
 pub use Rattle.frz_atlas_prelude.proofs.BackRefused.{back_line_not_empty, result_is_not_both}
 pub use Rattle.frz_atlas_prelude.proofs.SmallPlaces.{place_refused, small_refused, small_unopened, small_unread, unopened_behind}

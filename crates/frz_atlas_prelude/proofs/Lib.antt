@@ -8,4 +8,5 @@ mod RulesRead
 mod SmallPlaces
 mod FaultEnds
 mod NamesTaken
+mod OwnRefused
 mod WordsAsked

@@ -2,12 +2,11 @@
 use Rattle.std.proofs.Common.{◌<◌, ◌≤◌, ℕ, List, [], length, Option, Result, arith}
 use Rattle.frz_store.specs.Files.{Files}
 use Rattle.frz_store.specs.Told.{StoreTold}
-use Rattle.frz_table.specs.Opening.{Contents, opened, table_format}
+use Rattle.frz_table.specs.Opening.{Contents}
 use Rattle.frz_table.specs.declared.fault.TableFault.{TableFault}
-use Rattle.frz_table.specs.declared.kind.FileKind.TheVariants.{Atlas}
 use Rattle.frz_atlas.specs.Behind.{IsRefusedAt}
 use Rattle.frz_atlas.specs.Held.{MayHoldAll}
-use Rattle.frz_atlas.specs.Loading.{IsOneUnopened, RefusesToLoad}
+use Rattle.frz_atlas.specs.Loading.{IsOneUnopened, RefusesToLoad, opened_own}
 use Rattle.frz_atlas.specs.Opening.{IsOneRefused, RefusesAll}
 use Rattle.frz_atlas.specs.Reading.{IsUnopened, RefusesToRead}
 use Rattle.frz_atlas.specs.declared.fault.AtlasFault.{AtlasFault}
@@ -70,5 +69,5 @@ module _ (behind : List (List ℕ)) (few : length behind ≤ MOST_BACKS) (old ne
   pub small_unread : (table : List ℕ) → RefusesToRead table behind old new fault
       → HasSmallPlace fault
   small_unread table h =
-      unopened_behind behind few old.files h.helds h.may_all (opened (table_format Atlas)) h.held
+      unopened_behind behind few old.files h.helds h.may_all opened_own h.held
       fault h.refuses

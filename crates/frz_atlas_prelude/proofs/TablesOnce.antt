@@ -6,7 +6,7 @@ use Rattle.frz_rules.specs.Text.{rules_of}
 use Rattle.frz_rules.proofs.Lemmas.{text_sound}
 use Rattle.frz_table.specs.declared.fault.TableFault.{TableFault}
 use Rattle.frz_table.specs.declared.fault.TableFault.TheVariants.{Missing}
-use Rattle.frz_table.specs.Opening.{Contents, opened, table_format}
+use Rattle.frz_table.specs.Opening.{Contents, opened, own_format}
 use Rattle.frz_table.proofs.Lemmas.{belongs, opened_missing}
 use Rattle.frz_check.specs.declared.verdict.Verdict.{Verdict}
 use Rattle.frz_check.specs.declared.verdict.Verdict.TheVariants as verdicts
@@ -16,8 +16,8 @@ use Rattle.frz_check.proofs.Lemmas.{many_codes, one_verdict, verdict_on, verdict
 use Rattle.frz_atlas.specs.Books.{Back}
 use Rattle.frz_atlas.specs.FileOn.{back_of}
 use Rattle.frz_atlas.specs.Links.{value_over}
-use Rattle.frz_atlas.proofs.Lemmas.{over_small}
-use Rattle.frz_atlas.specs.Behind.{IsJudgedOver, IsRefusedAt, IsRefusedOver, TableBytes, kind_held, kind_of, leans}
+use Rattle.frz_atlas.proofs.Lemmas.{of_own, over_small}
+use Rattle.frz_atlas.specs.Behind.{IsJudgedOver, IsRefusedAt, IsRefusedOver, TableBytes, kind_of, leans}
 use Rattle.frz_atlas.specs.Held.{all_held}
 use Rattle.frz_atlas.specs.declared.fault.BackFault.{BackFault}
 use Rattle.frz_atlas.specs.declared.fault.BackFault.TheVariants.{Refused, Wrong}
@@ -25,7 +25,7 @@ use Rattle.frz_atlas_prelude.specs.Tables.{AreExactOver}
 
 -- the verdict on bytes that open over these tables
 judged_so : (before : List Back) (table : TableBytes) (v : Verdict)
-    → opened (table_format (kind_of table.bytes)) (Some table.bytes) ≡ Ok table.contents
+    → opened own_format (Some table.bytes) ≡ Ok table.contents
     → IsVerdict table.contents.rules (value_over (leans table.bytes) table.contents.rules before)
     (kept_codes table.contents table.bytes) v
     → IsJudgedOver before table v
@@ -34,13 +34,14 @@ judged_so before table v opens h =
     let kind = kind_of table.bytes in
     let value = value_over (leans table.bytes) contents.rules before in
     let read : rules_of contents.text ≡ Ok contents.rules =
-    (belongs (table_format kind) table.bytes contents opens).read in
+    (belongs own_format table.bytes contents opens).read in
     record {
       opens = opens;
       codes = h;
       told = λ are. verdict_on kind value contents table.bytes v are (table_exact contents.rules value)
           (plies_few contents.rules value (over_small (leans table.bytes) contents.rules before
-          (text_sound contents.text contents.rules read))) read opens h;
+          (text_sound contents.text contents.rules read))) read
+          (of_own table.bytes contents opens) h;
     }
 
 -- what one name holds, over these tables
@@ -56,7 +57,7 @@ by_verdict before held table there (verdicts.Wrong wrong) h =
     refused (Wrong wrong) (record { table = table; there = there; judged = h })
 
 by_opening : (before : List Back) (bytes : List ℕ) (x : Result Contents TableFault)
-    → opened (table_format (kind_of bytes)) (Some bytes) ≡ x → OneFound before (Some bytes)
+    → opened own_format (Some bytes) ≡ x → OneFound before (Some bytes)
 by_opening before bytes (Err fault) e = refused (Refused fault) e
 by_opening before bytes (Ok contents) e =
     let table : TableBytes = record { bytes = bytes; contents = contents } in
@@ -65,9 +66,9 @@ by_opening before bytes (Ok contents) e =
     by_verdict before (Some bytes) table refl v.0 (judged_so before table v.0 e v.1)
 
 one_found : (before : List Back) (held : Option (List ℕ)) → OneFound before held
-one_found before None = refused (Refused Missing) (opened_missing (table_format (kind_held None)))
+one_found before None = refused (Refused Missing) (opened_missing own_format)
 one_found before (Some bytes) =
-    by_opening before bytes (opened (table_format (kind_of bytes)) (Some bytes)) refl
+    by_opening before bytes (opened own_format (Some bytes)) refl
 
 -- bytes have one verdict over these tables
 module _ (before : List Back) (held : Option (List ℕ)) (one other : TableBytes) (v w : Verdict)
@@ -79,7 +80,7 @@ module _ (before : List Back) (held : Option (List ℕ)) (one other : TableBytes
   same_contents : other.contents ≡ one.contents
   same_contents =
       let e : ◌≡◌ {A = Result Contents TableFault} (Ok other.contents) (Ok one.contents) =
-      sym k.opens ∙ ap (λ (l : List ℕ). opened (table_format (kind_of l)) (Some l)) same_bytes
+      sym k.opens ∙ ap (λ (l : List ℕ). opened own_format (Some l)) same_bytes
       ∙ h.opens in cc
 
   same_table : other ≡ one
@@ -97,16 +98,13 @@ module _ (before : List Back) (held : Option (List ℕ)) (one other : TableBytes
 
 -- a name that holds an exact table is not refused, and has one refusal
 module _ (before : List Back) (held : Option (List ℕ)) where
-  kind_there : (bytes : List ℕ) → held ≡ Some bytes → kind_held held ≡ kind_of bytes
-  kind_there bytes there = ap kind_held there
-
   opens_held : (table : TableBytes) (v : Verdict) → held ≡ Some table.bytes
-      → IsJudgedOver before table v → opened (table_format (kind_held held)) held ≡ Ok table.contents
+      → IsJudgedOver before table v → opened own_format held ≡ Ok table.contents
   opens_held table v there h =
-      ap (λ (x : Option (List ℕ)). opened (table_format (kind_held x)) x) there ∙ h.opens
+      ap (λ (x : Option (List ℕ)). opened own_format x) there ∙ h.opens
 
   never_open : (table : TableBytes) (v : Verdict) (fault : TableFault) → held ≡ Some table.bytes
-      → IsJudgedOver before table v → opened (table_format (kind_held held)) held ≡ Err fault → ⊥
+      → IsJudgedOver before table v → opened own_format held ≡ Err fault → ⊥
   never_open table v fault there h e =
       let no : ◌≡◌ {A = Result Contents TableFault} (Ok table.contents) (Err fault) =
       sym (opens_held table v there h) ∙ e in cc

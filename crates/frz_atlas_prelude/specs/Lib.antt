@@ -3,6 +3,7 @@ pub mod Asked
 pub mod BackLines
 pub mod Ending
 pub mod Tables
+pub mod OwnFiles
 pub mod Costs
 pub mod TableRefusals
 pub mod RulesRefusals

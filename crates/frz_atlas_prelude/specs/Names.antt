@@ -16,16 +16,10 @@ abbrev pub file_names_of : List (List ℕ) → Option Names
 file_names_of [] = None
 file_names_of (file ∷ backs) = if nat_lt MOST_BACKS (length backs) then None else Some (file, backs)
 
--- TABLE and the BACKs, of which there are 1 to 16; any other number of words is refused
-abbrev pub table_names_of : List (List ℕ) → Option Names
-table_names_of (table ∷ back ∷ backs) =
-    if nat_lt MOST_BACKS (length (back ∷ backs)) then None else Some (table, back ∷ backs)
-table_names_of _ = None
-
 -- RULES, and then TABLE and the BACKs
 abbrev pub build_names_of : List (List ℕ) → Option (List ℕ × Names)
 build_names_of [] = None
-build_names_of (rules ∷ words) = option_map (λ names. (rules, names)) (table_names_of words)
+build_names_of (rules ∷ words) = option_map (λ names. (rules, names)) (file_names_of words)
 
 -- some name stands twice among these
 abbrev pub has_twice : List (List ℕ) → Bool
@@ -33,14 +27,13 @@ has_twice [] = false
 has_twice (name ∷ names) = list_any (λ other. bytes_eq other name) names || has_twice names
 
 -- the words are these names, no two of which are the same
-pub record AreDifferent (names_of : List (List ℕ) → Option Names) (words : List (List ℕ))
-    (file : List ℕ) (behind : List (List ℕ)) : Type 0 where
-  pub named : names_of words ≡ Some (file, behind)
+pub record AreDifferent (words : List (List ℕ)) (file : List ℕ) (behind : List (List ℕ))
+    : Type 0 where
+  pub named : file_names_of words ≡ Some (file, behind)
   pub apart : has_twice words ≡ false
 
 -- why words give no such names
-pub data DoNotName (names_of : List (List ℕ) → Option Names) (words : List (List ℕ)) :
-    Refusal → Type 0 where
-  not_so_many : names_of words ≡ None → DoNotName names_of words Count
-  same : (names : Names) → names_of words ≡ Some names → has_twice words ≡ true
-      → DoNotName names_of words SameName
+pub data DoNotName (words : List (List ℕ)) : Refusal → Type 0 where
+  not_so_many : file_names_of words ≡ None → DoNotName words Count
+  same : (names : Names) → file_names_of words ≡ Some names → has_twice words ≡ true
+      → DoNotName words SameName

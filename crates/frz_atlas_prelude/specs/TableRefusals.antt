@@ -2,10 +2,9 @@
 use Rattle.std.specs.Prelude.{◌≡◌, ℕ, List, [], map, Err}
 use Rattle.frz_store.specs.Files.{Files}
 use Rattle.frz_table.specs.declared.fault.TableFault.{TableFault}
-use Rattle.frz_table.specs.declared.kind.FileKind.TheVariants.{Atlas}
-use Rattle.frz_table.specs.Opening.{opened, table_format}
+use Rattle.frz_table.specs.Opening.{opened, own_format}
 use Rattle.frz_atlas.specs.Behind.{IsRefusedAt}
-use Rattle.frz_atlas.specs.Checking.{OpensAtlas}
+use Rattle.frz_atlas.specs.Checking.{OpensOwn}
 use Rattle.frz_atlas.specs.Loading.{opened_all}
 use Rattle.frz_atlas.specs.declared.fault.BackFault.{BackFault}
 use Rattle.frz_atlas.specs.declared.fault.BackFault.TheVariants.{Refused}
@@ -17,14 +16,14 @@ use Rattle.frz_atlas_prelude.specs.BackLines.{back_line, back_status}
 -- TABLE is refused, and the line says why
 pub record RefusesTable (table : List ℕ) (files : Files) (a : Answer) : Type 0 where
   pub fault : TableFault
-  pub refused : opened (table_format Atlas) (files table) ≡ Err fault
+  pub refused : opened own_format (files table) ≡ Err fault
   pub told : a ≡ says (table_status fault) (table_line fault) files
 
 -- TABLE opens. The BACK at this place is refused, and all before it are exact; the line counts
 -- places from 1
 pub record RefusesBehind (table : List ℕ) (behind : List (List ℕ)) (files : Files)
     (a : Answer) : Type 0 where
-  pub opens : OpensAtlas (files table)
+  pub opens : OpensOwn (files table)
   pub place : ℕ
   pub fault : BackFault
   pub refused : IsRefusedAt [] (map files behind) place fault
@@ -34,7 +33,7 @@ pub record RefusesBehind (table : List ℕ) (behind : List (List ℕ)) (files : 
 -- line counts places from 1
 pub record RefusesOpening (table : List ℕ) (behind : List (List ℕ)) (files : Files)
     (a : Answer) : Type 0 where
-  pub opens : OpensAtlas (files table)
+  pub opens : OpensOwn (files table)
   pub place : ℕ
   pub fault : TableFault
   pub refused : opened_all (map files behind) ≡ Err (place, fault)

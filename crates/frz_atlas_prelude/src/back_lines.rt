@@ -1,11 +1,11 @@
 //! The line that refuses one of the tables behind another; it names the table by its place.
-ghost use Rattle.std.specs.Prelude.{◌<◌, ◌++◌, decimal};
+ghost use Rattle.std.specs.Prelude.{◌≡◌, ◌<◌, ◌++◌, decimal};
 ghost use Rattle.frz_store.specs.Told.{sink_of};
-ghost use Rattle.frz_table.specs.declared.fault.TableFault.TheVariants.{Magic, Missing, Rules};
+ghost use Rattle.frz_table.specs.declared.fault.TableFault.TheVariants.{Missing, Rules};
 ghost use Rattle.frz_answer.specs.Texts.{WroteText};
 ghost use Rattle.frz_atlas.specs.declared.fault.BackFault.TheVariants.{Wrong as WrongEntry};
 ghost use Rattle.frz_prelude.specs.Causes.{rules_line};
-ghost use Rattle.frz_prelude.specs.TableCauses.{due_text, file_line};
+ghost use Rattle.frz_prelude.specs.TableCauses.{due_text, file_line, other_words};
 ghost use Rattle.frz_atlas_prelude.specs.declared.names.TheConstants.{MOST_BACKS};
 ghost use Rattle.frz_atlas_prelude.specs.BackLines.{back_word, back_line};
 
@@ -15,7 +15,7 @@ use frz_game::Wrong;
 use frz_prelude::{Refused, Stop, write_wrong};
 use frz_rules::RulesFault;
 use frz_store::{Failed, Sink};
-use frz_table::TableFault;
+use frz_table::{OtherFile, TableFault};
 
 /// Writes which table it is: `back` and its place, counted from 1.
 fn write_word<O: Sink>(place: usize, out: &mut O) -> Result<(), Failed>
@@ -35,13 +35,25 @@ fn write_missing<O: Sink>(place: usize, out: &mut O) -> Result<(), Failed>
     write_piece(b"\n", out)
 }
 
-fn write_magic<O: Sink>(place: usize, out: &mut O) -> Result<(), Failed>
+/// What is written of a file that another program or another time made, behind the word for it.
+fn words_of(other: OtherFile) -> &'static [u8]
+    ensures { result.now ≡ other_words other }
+{
+    match other {
+        OtherFile::Chained => b": chained, ask freezer chainquery\n",
+        OtherFile::Former => b": former, ask freezer migrate\n",
+        OtherFile::Older => b": older, build it again\n",
+    }
+}
+
+/// Writes which table it is, and what is wrong with its file.
+fn write_words<O: Sink>(place: usize, what: &[u8], out: &mut O) -> Result<(), Failed>
     requires { place < MOST_BACKS }
-    ensures { WroteText (file_line (back_word place) Magic) result
+    ensures { WroteText (back_word place ++ what.now) result
         (sink_of O.Sink out.old) (sink_of O.Sink out.new) }
 {
     write_word(place, out)?;
-    write_piece(b": magic\n", out)
+    write_piece(what, out)
 }
 
 /// Writes what is wrong with the file, the number that is there, and the number that is due.
@@ -90,7 +102,8 @@ fn write_file_fault<O: Sink>(place: usize, fault: TableFault, out: &mut O) -> Re
 {
     match fault {
         TableFault::Missing => write_missing(place, out),
-        TableFault::Magic => write_magic(place, out),
+        TableFault::Magic => write_words(place, b": magic\n", out),
+        TableFault::Other(other) => write_words(place, words_of(other), out),
         TableFault::Truncated(length, due) => {
             write_numbers(place, b": truncated ", length, due, out)
         }

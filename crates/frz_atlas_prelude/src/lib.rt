@@ -1,4 +1,4 @@
-//! What the commands on tables over several others share: the names that their words give, the
+//! What the commands on tables and those behind them share: the names that their words give, the
 //! lines that refuse one of the tables behind, and how a command ends at what is wrong with a file.
 #![tactic(auto)]
 
@@ -10,5 +10,5 @@ mod names;
 pub use asked::{Asked, asked_names};
 pub use ending::end_at;
 pub use names::{
-    MOST_BACKS, build_names, different_names, has_twice, is_among, names_with_backs, table_names,
+    MOST_BACKS, build_names, has_twice, is_among, names_with_backs,
 };

@@ -6,7 +6,7 @@ ghost use Rattle.std.specs.Str.{bytes_eq};
 ghost use Rattle.std.specs.String.{string_bytes};
 ghost use Rattle.frz_atlas_prelude.specs.Names as names;
 ghost use Rattle.frz_atlas_prelude.specs.Names.{AreDifferent, DoNotName};
-ghost use Rattle.frz_atlas_prelude.specs.Names.{build_names_of, file_names_of, table_names_of};
+ghost use Rattle.frz_atlas_prelude.specs.Names.{build_names_of, file_names_of};
 
 use frz_answer::Refusal;
 
@@ -27,23 +27,7 @@ fn file_names(words: &[String]) -> Option<(&str, &[String])>
     }
 }
 
-/// The table's name, and the 1 to 16 names of the tables behind it; `None` for any other number.
-pub fn table_names(words: &[String]) -> Option<(&str, &[String])>
-    ensures named { option_map (λ all. (all.0.now, map string_bytes all.1.now)) result
-        ≡ table_names_of (map string_bytes words.now) }
-    ensures words_are { IfSome result (λ all. map string_bytes words.now
-        ≡ all.0.now ∷ map string_bytes all.1.now) }
-    ensures few { IfSome result (λ all. length (map string_bytes all.1.now) ≤ MOST_BACKS) }
-{
-    match words {
-        [table, behind @ ..] if !behind.is_empty() && behind.len() <= MOST_BACKS => {
-            Some((table.as_str(), behind))
-        }
-        _ => None,
-    }
-}
-
-/// The rules file's name, the table's name, and the 1 to 16 names of the tables behind it; `None`
+/// The rules file's name, the table's name, and the 0 to 16 names of the tables behind it; `None`
 /// for any other number.
 pub fn build_names(words: &[String]) -> Option<(&str, &str, &[String])>
     ensures named { option_map (λ all. (all.0.now, (all.1.now, map string_bytes all.2.now))) result
@@ -53,7 +37,7 @@ pub fn build_names(words: &[String]) -> Option<(&str, &str, &[String])>
     ensures few { IfSome result (λ all. length (map string_bytes all.2.now) ≤ MOST_BACKS) }
 {
     match words {
-        [rules, rest @ ..] => match table_names(rest) {
+        [rules, rest @ ..] => match file_names(rest) {
             Some((table, behind)) => Some((rules.as_str(), table, behind)),
             None => None,
         },
@@ -81,32 +65,15 @@ pub fn has_twice(words: &[String]) -> bool
     }
 }
 
-/// The table's name and the 1 to 16 names of the tables behind it, no two of which are the same; or
-/// why the words are refused.
-pub fn different_names(words: &[String]) -> Result<(&str, &[String]), Refusal>
-    ensures named { IfOk result (λ all. AreDifferent table_names_of (map string_bytes words.now)
-        all.0.now (map string_bytes all.1.now)) }
-    ensures apart { IfOk result (λ all. names.has_twice (all.0.now ∷ map string_bytes all.1.now)
-        ≡ false) }
-    ensures few { IfOk result (λ all. length (map string_bytes all.1.now) ≤ MOST_BACKS) }
-    ensures refused { IfErr result (DoNotName table_names_of (map string_bytes words.now)) }
-{
-    match table_names(words) {
-        None => Err(Refusal::Count),
-        Some(_) if has_twice(words) => Err(Refusal::SameName),
-        Some(names) => Ok(names),
-    }
-}
-
 /// The file's name and the 0 to 16 names of the tables behind it, no two of which are the same; or
 /// why the words are refused.
 pub fn names_with_backs(words: &[String]) -> Result<(&str, &[String]), Refusal>
-    ensures named { IfOk result (λ all. AreDifferent file_names_of (map string_bytes words.now)
+    ensures named { IfOk result (λ all. AreDifferent (map string_bytes words.now)
         all.0.now (map string_bytes all.1.now)) }
     ensures apart { IfOk result (λ all. names.has_twice (all.0.now ∷ map string_bytes all.1.now)
         ≡ false) }
     ensures few { IfOk result (λ all. length (map string_bytes all.1.now) ≤ MOST_BACKS) }
-    ensures refused { IfErr result (DoNotName file_names_of (map string_bytes words.now)) }
+    ensures refused { IfErr result (DoNotName (map string_bytes words.now)) }
 {
     match file_names(words) {
         Some(names) if !has_twice(words) => Ok(names),

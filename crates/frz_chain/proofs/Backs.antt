@@ -9,7 +9,7 @@ use Rattle.frz_rules.specs.Text.{rules_of}
 use Rattle.frz_store.specs.Bytes.{AreBytes, HoldsBytes}
 use Rattle.frz_store.specs.Told.{StoreTold}
 use Rattle.frz_table.specs.declared.fault.TableFault.{TableFault}
-use Rattle.frz_table.specs.declared.fault.TableFault.TheVariants.{Missing, Magic, Truncated, Extra, Rules, Size, Failed, NoMemory}
+use Rattle.frz_table.specs.declared.fault.TableFault.TheVariants.{Missing, Magic, Other, Truncated, Extra, Rules, Size, Failed, NoMemory}
 use Rattle.frz_table.specs.declared.kind.FileKind.TheVariants.{Plain}
 use Rattle.frz_table.specs.Faults.{IsOutside}
 use Rattle.frz_table.specs.Layout.{pieces_of}
@@ -35,6 +35,7 @@ file_refused : (held : Option (List ℕ)) (fault : TableFault)
     → Refuses (opened (table_format Plain) held) fault → IsRefusedBack held (back_fault fault)
 file_refused held Missing h = h
 file_refused held Magic h = h
+file_refused held (Other other) h = h
 file_refused held (Truncated length due) h = h
 file_refused held (Extra length due) h = h
 file_refused held (Rules fault) h = h

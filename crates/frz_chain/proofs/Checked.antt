@@ -4,7 +4,7 @@ use Rattle.frz_sets.specs.Sets.{size_of}
 use Rattle.frz_store.specs.Files.{Files}
 use Rattle.frz_store.specs.Told.{StoreTold}
 use Rattle.frz_table.specs.declared.fault.TableFault.{TableFault}
-use Rattle.frz_table.specs.declared.fault.TableFault.TheVariants.{Missing, Magic, Truncated, Extra, Rules, Size, Failed, NoMemory}
+use Rattle.frz_table.specs.declared.fault.TableFault.TheVariants.{Missing, Magic, Other, Truncated, Extra, Rules, Size, Failed, NoMemory}
 use Rattle.frz_table.specs.declared.kind.FileKind.{FileKind}
 use Rattle.frz_table.specs.declared.kind.FileKind.TheVariants.{Chained}
 use Rattle.frz_table.specs.Layout.{pieces_of}
@@ -31,6 +31,7 @@ file_refused : (held back_held : Option (List ℕ)) (fault : TableFault)
     → IsRefusedChain held back_held (table_fault fault)
 file_refused held back_held Missing h = h
 file_refused held back_held Magic h = h
+file_refused held back_held (Other other) h = h
 file_refused held back_held (Truncated length due) h = h
 file_refused held back_held (Extra length due) h = h
 file_refused held back_held (Rules fault) h = h

@@ -1,5 +1,5 @@
 -- Table files of the former format: opened as others are, with another magic and a limited size.
-use Rattle.std.specs.Prelude.{ℕ, ◌≤◌, nat_lt, List, Option, Result, Ok, Err, codes, if◌then◌else◌}
+use Rattle.std.specs.Prelude.{ℕ, ◌≤◌, nat_lt, List, Option, None, Result, Ok, Err, if◌then◌else◌}
 use Rattle.frz_combinations.specs.Binomials.{capped}
 use Rattle.frz_sets.specs.Views.{RuleLines}
 use Rattle.frz_index.specs.OldNumbers.{old_size_of}
@@ -8,13 +8,14 @@ use Rattle.frz_rules.specs.Text.{rules_of}
 use Rattle.frz_rules.specs.declared.fault.RulesCause.TheVariants.{SetTooBig}
 use Rattle.frz_rules.specs.declared.fault.RulesFault.{RulesFault}
 use Rattle.frz_store.specs.Files.{Files}
+use Rattle.frz_table.specs.Layout.{former_magic}
 use Rattle.frz_table.specs.Opening.{Contents, Format}
 use Rattle.frz_table.specs.Possible.{MayKeepCodes}
 use Rattle.frz_table.specs.Tables.{Holds, IsRead, IsTableFile}
 
 -- the first eight bytes
 abbrev pub old_magic : List ℕ
-old_magic = codes "FREEZER1"
+old_magic = former_magic
 
 -- rules whose set has too many numbers in the former format are refused
 abbrev pub limited : RuleLines → Result RuleLines RulesFault
@@ -34,7 +35,12 @@ old_rules_of text = limited_read (rules_of text)
 -- the former format of table files
 abbrev pub old_format : Format
 old_format =
-    record { magic = λ front. old_magic; read = old_rules_of; size = λ rules. old_size_of rules.groups }
+    record {
+      magic = λ front. old_magic;
+      other = λ front. None;
+      read = old_rules_of;
+      size = λ rules. old_size_of rules.groups;
+    }
 
 -- what contracts see of an open file of the former format
 pub record OldTable : Type 0 where

@@ -1,19 +1,20 @@
 -- Why a file may be refused as a table.
-use Rattle.std.proofs.Common.{◌≡◌, subst, ℕ, ◌+◌, ◌==◌, List, length, take, Bool, true, false, Some, Result, Ok, Err, if◌then◌else◌, refl}
+use Rattle.std.proofs.Common.{◌≡◌, subst, ℕ, ◌+◌, ◌==◌, List, length, take, Bool, true, false, Option, None, Some, Result, Ok, Err, if◌then◌else◌, refl}
 use Rattle.std.specs.Prelude.{nat_lt, ⊤}
 use Rattle.std.specs.Str.{bytes_eq}
 use Rattle.frz_rules.specs.declared.fault.RulesCause.TheVariants.{TooLong}
 use Rattle.frz_sets.specs.Views.{RuleLines}
 use Rattle.frz_rules.specs.declared.fault.RulesFault.{RulesFault}
 use Rattle.frz_table.specs.declared.fault.TableFault.{TableFault}
-use Rattle.frz_table.specs.declared.fault.TableFault.TheVariants.{Missing, Magic, Truncated, Extra, Rules, Size, Failed, NoMemory}
+use Rattle.frz_table.specs.declared.fault.TableFault.TheVariants.{Missing, Magic, Other, Truncated, Extra, Rules, Size, Failed, NoMemory}
+use Rattle.frz_table.specs.declared.other.OtherFile.{OtherFile}
 use Rattle.frz_table.specs.Layout.{due_length}
 use Rattle.frz_table.specs.Opening.{Format, Contents, opened, kept_length, kept_text, kept_size, of_length, of_size, with_rules, with_text, with_length, with_magic}
 use Rattle.frz_answer.specs.declared.status.Status.{Status}
 use Rattle.frz_answer.specs.declared.status.Status.TheVariants as statuses
 use Rattle.frz_answer.specs.Statuses.{OneOf}
 use Rattle.frz_store.specs.Told.{StoreTold}
-use Rattle.frz_table.specs.Faults.{TableCauses}
+use Rattle.frz_table.specs.Faults.{TableCauses, magic_fault}
 use Rattle.frz_prelude.specs.Refusals.{table_status}
 use Rattle.frz_prelude.specs.Stops.{HasItsCause, stop_of_table}
 
@@ -59,11 +60,16 @@ by_text format bytes =
     (with_rules format bytes (format.read (kept_text bytes))) tt
     (by_rules format bytes (format.read (kept_text bytes)))
 
+by_other : (other : Option OtherFile) → OfBytes (Err (magic_fault other))
+by_other None = tt
+by_other (Some other) = tt
+
 by_magic : (format : Format) (bytes : List ℕ) → OfBytes (with_magic format bytes)
 by_magic format bytes =
-    either (bytes_eq (take 8 bytes) (format.magic (take 8 bytes))) (with_length format bytes) (Err Magic)
+    either (bytes_eq (take 8 bytes) (format.magic (take 8 bytes))) (with_length format bytes)
+    (Err (magic_fault (format.other (take 8 bytes))))
     (either (nat_lt 65536 (kept_length bytes)) (Err (Rules (record { line = 0; cause = TooLong })))
-    (with_text format bytes) tt (by_text format bytes)) tt
+    (with_text format bytes) tt (by_text format bytes)) (by_other (format.other (take 8 bytes)))
 
 by_bytes : (format : Format) (bytes : List ℕ) → OfBytes (opened format (Some bytes))
 unfolding opened
@@ -81,6 +87,7 @@ pub table_cause : (T A : Type 0) (fault : TableFault) (old new : StoreTold)
     → HasItsCause {A = A} (Err (stop_of_table fault)) old new
 table_cause T A Missing old new h = record { faults = h.refused; wants = h.wants_refused }
 table_cause T A Magic old new h = record { faults = h.refused; wants = h.wants_refused }
+table_cause T A (Other other) old new h = record { faults = h.refused; wants = h.wants_refused }
 table_cause T A (Truncated length due) old new h =
     record { faults = h.refused; wants = h.wants_refused }
 table_cause T A (Extra length due) old new h =
@@ -95,6 +102,7 @@ pub by_table_status : (P : Status → Type 0) (fault : TableFault) → P statuse
     → P statuses.Table → P (table_status fault)
 by_table_status P Missing missing table = missing
 by_table_status P Magic missing table = table
+by_table_status P (Other other) missing table = table
 by_table_status P (Truncated length due) missing table = table
 by_table_status P (Extra length due) missing table = table
 by_table_status P (Rules fault) missing table = table

@@ -2,7 +2,7 @@
 use Rattle.std.proofs.Common.{◌≡◌, refl, sym, subst, ℕ, List, Some, Result, Err}
 use Rattle.frz_store.specs.Files.{Files}
 use Rattle.frz_table.specs.declared.fault.TableFault.{TableFault}
-use Rattle.frz_table.specs.declared.fault.TableFault.TheVariants.{Missing, Magic, Truncated, Extra, Rules, Size, Failed, NoMemory}
+use Rattle.frz_table.specs.declared.fault.TableFault.TheVariants.{Missing, Magic, Other, Truncated, Extra, Rules, Size, Failed, NoMemory}
 use Rattle.frz_table.specs.declared.kind.FileKind.{FileKind}
 use Rattle.frz_table.specs.Opening.{Format, Contents, Refuses, opened, table_format}
 use Rattle.frz_answer.specs.declared.status.Status.{Status}
@@ -23,6 +23,7 @@ use Rattle.frz_prelude.proofs.Stopping.{StopsWith}
 by_fault : (fault : TableFault) → IsOfBytes fault → table_status fault ≡ statuses.Table
 by_fault Missing of = absurd of
 by_fault Magic of = refl
+by_fault (Other other) of = refl
 by_fault (Truncated length due) of = refl
 by_fault (Extra length due) of = refl
 by_fault (Rules fault) of = refl
@@ -52,6 +53,7 @@ from_table : (fault : TableFault) (why : Refusal) → stop_of_table fault ≡ Re
     → refusals.Table fault ≡ why
 from_table Missing why e = cc
 from_table Magic why e = cc
+from_table (Other other) why e = cc
 from_table (Truncated length due) why e = cc
 from_table (Extra length due) why e = cc
 from_table (Rules fault) why e = cc
@@ -76,6 +78,7 @@ pub stops_by : (job : Job) (files : Files) (input : List ℕ) (old new : World)
     → Refuses given fault → StopsWith job (stop_of_table fault) files input old new
 stops_by job files input old new given Missing refused begun e = refused e
 stops_by job files input old new given Magic refused begun e = refused e
+stops_by job files input old new given (Other other) refused begun e = refused e
 stops_by job files input old new given (Truncated length due) refused begun e = refused e
 stops_by job files input old new given (Extra length due) refused begun e = refused e
 stops_by job files input old new given (Rules fault) refused begun e = refused e

@@ -18,7 +18,7 @@ use Rattle.frz_table.specs.declared.fault.TableFault.TheVariants as table
 use Rattle.frz_answer.specs.declared.words.Refusal.{Refusal as WordsRefusal}
 use Rattle.frz_answer.specs.declared.words.Refusal.TheVariants as words
 use Rattle.frz_answer.specs.Words.{words_line}
-use Rattle.frz_prelude.specs.TableCauses.{due_text, file_line}
+use Rattle.frz_prelude.specs.TableCauses.{due_text, file_line, other_words}
 use Rattle.frz_prelude.specs.Causes.{rules_line}
 use Rattle.frz_prelude.specs.Refusals.{table_status, status_of, refusal_line}
 use Rattle.frz_prelude.specs.Stops.{WantsMemoryAlone, HasItsCause, EndsBy}
@@ -26,6 +26,8 @@ use Rattle.frz_prelude.specs.declared.refused.Refused.{Refused as Refusal}
 use Rattle.frz_prelude.specs.declared.refused.Refused.TheVariants as refusals
 use Rattle.frz_prelude.specs.declared.stop.Stop.{Stop}
 use Rattle.frz_prelude.specs.declared.stop.Stop.TheVariants.{Refused, Fault}
+use Rattle.frz_table.specs.declared.other.OtherFile.{OtherFile}
+use Rattle.frz_table.specs.declared.other.OtherFile.TheVariants as others
 use Rattle.frz_prelude.proofs.OpenedTables.{by_table_status}
 
 own_table : (fault : TableFault) → OneOf (table_status fault) (table_status fault ∷ [])
@@ -42,10 +44,16 @@ own_status (refusals.Back fault) = own_table fault
 own_status (refusals.BackWrong wrong) = refl
 own_status refusals.Outside = refl
 
+other_said : (other : OtherFile) → other_words other ≡ [] → ⊥
+other_said others.Chained e = cc
+other_said others.Former e = cc
+other_said others.Older e = cc
+
 -- each fault of a file is said, whatever word names the file
 file_said : (word : List ℕ) (fault : TableFault) → file_line word fault ≡ [] → ⊥
 file_said word table.Missing e = cc
 file_said word table.Magic e = behind_said word _ (λ none. cc) e
+file_said word (table.Other other) e = behind_said word _ (λ none. other_said other none) e
 file_said word (table.Truncated length due) e = behind_said _ (due_text due) (λ none. cc) e
 file_said word (table.Extra length due) e = behind_said _ (due_text due) (λ none. cc) e
 file_said word (table.Rules fault) e = behind_said _ (rules_line fault) (λ none. cc) e

@@ -1,15 +1,15 @@
 //! The lines that refuse a table file.
-ghost use Rattle.std.specs.Prelude.{◌++◌, codes, decimal};
+ghost use Rattle.std.specs.Prelude.{◌≡◌, ◌++◌, codes, decimal};
 ghost use Rattle.frz_store.specs.Told.{sink_of};
 ghost use Rattle.frz_answer.specs.Texts.{WroteText};
 ghost use Rattle.frz_table.specs.declared.fault.TableFault.TheVariants.{Rules};
-ghost use Rattle.frz_prelude.specs.TableCauses.{due_text, file_line};
+ghost use Rattle.frz_prelude.specs.TableCauses.{due_text, file_line, other_words};
 
 use crate::causes::write_rules_fault;
 use frz_answer::{Fault, write_numbered, write_numbered_line, write_piece};
 use frz_rules::RulesFault;
 use frz_store::{Failed, Sink};
-use frz_table::TableFault;
+use frz_table::{OtherFile, TableFault};
 
 fn write_due<O: Sink>(due: u64, out: &mut O) -> Result<(), Failed>
     ensures { WroteText (due_text due) result (sink_of O.Sink out.old) (sink_of O.Sink out.new) }
@@ -27,12 +27,24 @@ fn write_missing<O: Sink>(word: &[u8], out: &mut O) -> Result<(), Failed>
     write_piece(b"\n", out)
 }
 
-fn write_magic<O: Sink>(word: &[u8], out: &mut O) -> Result<(), Failed>
-    ensures { WroteText (word.now ++ codes ": magic\n") result
+/// Writes the word that stands for the file, and what is wrong with the file.
+fn write_words<O: Sink>(word: &[u8], what: &[u8], out: &mut O) -> Result<(), Failed>
+    ensures { WroteText (word.now ++ what.now) result
         (sink_of O.Sink out.old) (sink_of O.Sink out.new) }
 {
     write_piece(word, out)?;
-    write_piece(b": magic\n", out)
+    write_piece(what, out)
+}
+
+/// What is written of a file that another program or another time made, behind the word for it.
+fn words_of(other: OtherFile) -> &'static [u8]
+    ensures { result.now ≡ other_words other }
+{
+    match other {
+        OtherFile::Chained => b": chained, ask freezer chainquery\n",
+        OtherFile::Former => b": former, ask freezer migrate\n",
+        OtherFile::Older => b": older, build it again\n",
+    }
 }
 
 /// Writes the word that stands for the file, what is wrong with the file, the number that is there,
@@ -72,7 +84,8 @@ pub(crate) fn write_file_fault<O: Sink>(
 {
     match fault {
         TableFault::Missing => write_missing(word, out),
-        TableFault::Magic => write_magic(word, out),
+        TableFault::Magic => write_words(word, b": magic\n", out),
+        TableFault::Other(other) => write_words(word, words_of(other), out),
         TableFault::Truncated(length, due) => {
             write_numbers(word, b": truncated ", length, due, out)
         }

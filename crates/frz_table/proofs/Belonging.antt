@@ -10,7 +10,8 @@ use Rattle.frz_sets.specs.Views.{RuleLines}
 use Rattle.frz_rules.specs.declared.fault.RulesCause.TheVariants.{TooLong}
 use Rattle.frz_rules.specs.declared.fault.RulesFault.{RulesFault}
 use Rattle.frz_table.specs.declared.fault.TableFault.{TableFault}
-use Rattle.frz_table.specs.declared.fault.TableFault.TheVariants.{Magic, Truncated, Extra, Rules, Size}
+use Rattle.frz_table.specs.declared.fault.TableFault.TheVariants.{Truncated, Extra, Rules, Size}
+use Rattle.frz_table.specs.Faults.{magic_fault}
 use Rattle.frz_table.specs.Numbers.{number_at}
 use Rattle.frz_table.specs.Layout.{due_length}
 use Rattle.frz_table.specs.Opening.{Format, Contents, IsOpened, opened, with_magic, with_length, with_text, with_rules, of_size, of_length, kept_length, kept_text, kept_size, due_by}
@@ -60,7 +61,8 @@ unfolding opened
 belongs format bytes contents h =
     let long = not_first (ltb (length bytes) 16) (Truncated (length bytes) 16)
     (with_magic format bytes) contents h in
-    let magic = not_second (bytes_eq (take 8 bytes) (format.magic (take 8 bytes))) (with_length format bytes) Magic
+    let magic = not_second (bytes_eq (take 8 bytes) (format.magic (take 8 bytes))) (with_length format bytes)
+    (magic_fault (format.other (take 8 bytes)))
     contents long.1 in
     let few = not_first (ltb 65536 (kept_length bytes))
     (Rules (record { line = 0; cause = TooLong })) (with_text format bytes) contents magic.1 in

@@ -23,7 +23,7 @@ use Rattle.frz_table.specs.Possible.{MayHold, MayOpen, MayRefuse}
 use Rattle.frz_table.specs.Steps.{Refines}
 use Rattle.frz_table.specs.Tables.{Begins, Carries, Holds, IsFileOf, IsTableFile, Table, table_size}
 use Rattle.frz_table.specs.declared.fault.TableFault.{TableFault}
-use Rattle.frz_table.specs.declared.fault.TableFault.TheVariants.{Missing, Magic, Truncated, Extra, Rules, Size, Failed, NoMemory}
+use Rattle.frz_table.specs.declared.fault.TableFault.TheVariants.{Missing, Magic, Other, Truncated, Extra, Rules, Size, Failed, NoMemory}
 use Rattle.frz_table.specs.declared.kind.FileKind.{FileKind}
 use Rattle.frz_table.proofs.Belonging.{belongs}
 use Rattle.frz_table.proofs.HeldFiles.{text_kept}
@@ -46,6 +46,7 @@ pub outside_refuses : (given : Result Contents TableFault) (fault : TableFault) 
     → Refuses given fault
 outside_refuses given Missing h = absurd h
 outside_refuses given Magic h = absurd h
+outside_refuses given (Other o) h = absurd h
 outside_refuses given (Truncated a b) h = absurd h
 outside_refuses given (Extra a b) h = absurd h
 outside_refuses given (Rules f) h = absurd h
@@ -57,6 +58,7 @@ refuses_as : (given : Result Contents TableFault) (fault : TableFault) → given
     → Refuses given fault
 refuses_as given Missing h = h
 refuses_as given Magic h = h
+refuses_as given (Other o) h = h
 refuses_as given (Truncated a b) h = h
 refuses_as given (Extra a b) h = h
 refuses_as given (Rules f) h = h

@@ -12,14 +12,15 @@ use Rattle.frz_rules.specs.declared.fault.RulesFault.{RulesFault}
 use Rattle.frz_sets.specs.Views.{RuleLines}
 use Rattle.frz_store.specs.Files.{Files}
 use Rattle.frz_table.specs.Asking.{Opened, number_of, by_length, by_magic, by_size, heading, kept_as, reading, by_head, texting, sized_as, sizing, by_rules, by_text, opening}
+use Rattle.frz_table.specs.Faults.{magic_fault}
 use Rattle.frz_table.specs.Layout.{due_length}
 use Rattle.frz_table.specs.Memory.{TakesMemory, WantsMemory}
 use Rattle.frz_table.specs.Numbers.{number_at}
-use Rattle.frz_table.specs.Opening.{Contents, Format, opened, with_magic, with_length, calls_by_magic, calls_by_length, with_rules, of_size, kept_length, kept_text, kept_size, opening_calls, calls_by_rules}
+use Rattle.frz_table.specs.Opening.{Contents, Format, front_of, opened, with_magic, with_length, calls_by_magic, calls_by_length, with_rules, of_size, kept_length, kept_text, kept_size, opening_calls, calls_by_rules}
 use Rattle.frz_table.specs.Possible.{held_text}
 use Rattle.frz_table.specs.Steps.{Refines}
 use Rattle.frz_table.specs.declared.fault.TableFault.{TableFault}
-use Rattle.frz_table.specs.declared.fault.TableFault.TheVariants.{Missing, Magic, Truncated, Extra, Rules, Size}
+use Rattle.frz_table.specs.declared.fault.TableFault.TheVariants.{Missing, Truncated, Extra, Rules, Size}
 use Rattle.frz_table.specs.declared.head.Head.{Head}
 use Rattle.frz_table.proofs.Tests.{at_least, both_if}
 
@@ -243,24 +244,24 @@ module _ (m : Files) (format : Format) (refines : Refines format) (name bytes : 
       }) few)))
 
   cost_magic : {b : ℕ} → 16 ≤ length bytes → b ≤ 8
-      → Costs m (bind_ok (by_magic name format.magic (length bytes) (take 8 bytes)) after)
+      → Costs m (bind_ok (by_magic name (front_of format) (length bytes) (take 8 bytes)) after)
       (with_magic format bytes) 2 (calls_by_magic format bytes) b most W
   cost_magic {b = b} enough few =
       cost_if_first (bytes_eq (take 8 bytes) (format.magic (take 8 bytes))) _ _ after
       (λ e. cost_first (number_of name 8) (by_length (length bytes)) after
       (cost_number 8 (λ n. bind_ok (by_length (length bytes) n) after)
       (cost_length enough ((bytes_eq-Decides (take 8 bytes) (format.magic (take 8 bytes))).0 e) (omega (arith, few)))))
-      (λ e. cost_refused Magic after (omega arith) (few_asked b (omega (arith, few))))
+      (λ e. cost_refused (magic_fault (format.other (take 8 bytes))) after (omega arith) (few_asked b (omega (arith, few))))
 
-  pub cost_held : Costs m (bind_ok (by_size name format.magic (Some (length bytes))) (after_head format name))
+  pub cost_held : Costs m (bind_ok (by_size name (front_of format) (Some (length bytes))) (after_head format name))
       (opened format (Some bytes)) 1 (opening_calls format (Some bytes)) 0 (most_asked (Some bytes))
       (WantsMemory (format.magic (take 8 bytes)) bytes)
   unfolding opened opening_calls after most W
   cost_held =
       cost_if_first (nat_lt (length bytes) 16) _ _ after
       (λ e. cost_refused _ after (omega arith) (few_asked 0 (omega arith)))
-      (λ e. cost_first (ask_bytes name 0 8) (by_magic name format.magic (length bytes)) after
-      (cost_read 0 8 (λ l. bind_ok (by_magic name format.magic (length bytes) l) after)
+      (λ e. cost_first (ask_bytes name 0 8) (by_magic name (front_of format) (length bytes)) after
+      (cost_read 0 8 (λ l. bind_ok (by_magic name (front_of format) (length bytes) l) after)
       (cost_magic (at_least (length bytes) 16 e) (omega arith))))
 
 pub open_costs : (m : Files) (format : Format) (name : List ℕ) → Refines format
@@ -270,13 +271,13 @@ unfolding opening texting heading opened opening_calls
 open_costs m format name refines =
     subst (λ p. Costs m p (opened format (m name)) 0 (opening_calls format (m name)) 0
     (most_asked (m name)) (IsSomeAnd (m name) (WantsDue format)))
-    (sym (bind_ok-assoc (heading name format.magic) (by_head name) (by_text format name)))
-    (cost_first (ask_size name) (by_size name format.magic) (after_head format name)
-    (cost_size name (λ n. bind_ok (by_size name format.magic n) (after_head format name))
+    (sym (bind_ok-assoc (heading name (front_of format)) (by_head name) (by_text format name)))
+    (cost_first (ask_size name) (by_size name (front_of format)) (after_head format name)
+    (cost_size name (λ n. bind_ok (by_size name (front_of format) n) (after_head format name))
     (by_held (m name) refl)))
   where
     by_held : (held : Option (List ℕ)) → m name ≡ held
-        → Costs m (bind_ok (by_size name format.magic (option_map length held)) (after_head format name))
+        → Costs m (bind_ok (by_size name (front_of format) (option_map length held)) (after_head format name))
         (opened format held) 1 (opening_calls format held) 0 (most_asked held)
         (IsSomeAnd held (WantsDue format))
     by_held None e = cost_refused Missing (after_head format name) (omega arith) (omega arith)

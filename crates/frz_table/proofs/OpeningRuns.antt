@@ -9,28 +9,29 @@ use Rattle.frz_store.specs.Told.{StoreTold}
 use Rattle.frz_store.specs.declared.outside.StoreFault.TheVariants as store
 use Rattle.frz_table.specs.Asking.{Opened, texting, sizing, by_rules, by_text, opening}
 use Rattle.frz_table.specs.Faults.{stop_of}
-use Rattle.frz_table.specs.Opening.{Contents, Format}
+use Rattle.frz_table.specs.Layout.{Front}
+use Rattle.frz_table.specs.Opening.{Contents, Format, front_of}
 use Rattle.frz_table.specs.declared.fault.TableFault.{TableFault}
 use Rattle.frz_table.specs.declared.fault.TableFault.TheVariants.{Rules}
 
 -- the text was not read
-pub no_text : (format : Format) (name : List ℕ) (magic : List ℕ → List ℕ) (fault : TableFault) (old new : StoreTold)
-    → magic ≡ format.magic → Run (texting name magic) (stop_end {A = Opened} (stop_of fault)) old new
+pub no_text : (format : Format) (name : List ℕ) (begin : Front) (fault : TableFault) (old new : StoreTold)
+    → begin ≡ front_of format → Run (texting name begin) (stop_end {A = Opened} (stop_of fault)) old new
     → Run (opening format name) (stop_end {A = Contents} (stop_of fault)) old new
 unfolding opening
-no_text format name magic fault old new is r =
+no_text format name begin fault old new is r =
     stop_first (stop_of fault) (by_text format name)
-    (subst (λ (l : List ℕ → List ℕ). Run (texting name l) (stop_end {A = Opened} (stop_of fault)) old new) is r)
+    (subst (λ (l : Front). Run (texting name l) (stop_end {A = Opened} (stop_of fault)) old new) is r)
 
-module _ (format : Format) (name : List ℕ) (magic : List ℕ → List ℕ) (o : Opened) (old mid : StoreTold)
-    (is_magic : magic ≡ format.magic) (first : Run (texting name magic) (came (Ok o)) old mid) where
+module _ (format : Format) (name : List ℕ) (begin : Front) (o : Opened) (old mid : StoreTold)
+    (is_front : begin ≡ front_of format) (first : Run (texting name begin) (came (Ok o)) old mid) where
   on : (read : Result RuleLines RulesFault) (end : End (Result Contents TableFault)) (new : StoreTold)
       → format.read o.text ≡ read → Run (by_rules format name o read) end mid new
       → Run (opening format name) end old new
   unfolding opening
   on read end new is r =
       ok_on (by_text format name)
-      (subst (λ (l : List ℕ → List ℕ). Run (texting name l) (came (Ok o)) old mid) is_magic first)
+      (subst (λ (l : Front). Run (texting name l) (came (Ok o)) old mid) is_front first)
       (subst (λ x. Run (by_rules format name o x) end mid new) (sym is) r)
 
   -- the format refuses the rules

@@ -9,7 +9,8 @@ use Rattle.frz_rules.specs.Text.{may_want_memory, rules_of}
 use Rattle.frz_rules.specs.declared.fault.RulesFault.{RulesFault}
 use Rattle.frz_sets.specs.Views.{RuleLines}
 use Rattle.frz_table.specs.Asking.{Opened, number_of, by_length, by_magic, by_size, heading, kept_as, reading, by_head, texting, sizing, by_rules, by_text, opening}
-use Rattle.frz_table.specs.Opening.{Format}
+use Rattle.frz_table.specs.Layout.{Front}
+use Rattle.frz_table.specs.Opening.{Format, front_of}
 use Rattle.frz_table.specs.declared.fault.TableFault.{TableFault}
 use Rattle.frz_table.specs.declared.head.Head.{Head}
 use Rattle.frz_table.proofs.Tests.{at_least}
@@ -35,28 +36,28 @@ head_length name file text =
     (λ e. either_then name (upto file 12) (nat_lt file (16 + text)) _ _ HeadAt
     (λ k. none_then name _ _ _ tt) (λ k. none_then name _ _ _ (refl, at_least file (16 + text) k)))
 
-head_magic : (name : List ℕ) (magic : List ℕ → List ℕ) (file : ℕ) (front : List ℕ) → 16 ≤ file
-    → Reads name (upto file 8) (by_magic name magic file front) HeadAt
+head_magic : (name : List ℕ) (begin : Front) (file : ℕ) (front : List ℕ) → 16 ≤ file
+    → Reads name (upto file 8) (by_magic name begin file front) HeadAt
 unfolding HeadAt
-head_magic name magic file front long =
-    either_then name (upto file 8) (bytes_eq front (magic front)) _ _ HeadAt
+head_magic name begin file front long =
+    either_then name (upto file 8) (bytes_eq front (begin.magic front)) _ _ HeadAt
     (λ e. number_then name (upto file 8) 8 (by_length file) HeadAt (omega arith, omega arith)
     (λ text. head_length name file text))
     (λ e. none_then name _ _ _ tt)
 
-head_size : (name : List ℕ) (magic : List ℕ → List ℕ) (n : Option ℕ)
-    → Reads name (mark_by_size n) (by_size name magic n) HeadAt
+head_size : (name : List ℕ) (begin : Front) (n : Option ℕ)
+    → Reads name (mark_by_size n) (by_size name begin n) HeadAt
 unfolding HeadAt
-head_size name magic None = none_then name absent _ _ tt
-head_size name magic (Some file) =
+head_size name begin None = none_then name absent _ _ tt
+head_size name begin (Some file) =
     either_then name (upto file 0) (nat_lt file 16) _ _ HeadAt (λ e. none_then name _ _ _ tt)
     (λ e. let long : 16 ≤ file = at_least file 16 e in
-    bytes_then name (upto file 0) 0 8 (by_magic name magic file) HeadAt (omega arith, omega (arith, long))
-    (λ front l. head_magic name magic file front long))
+    bytes_then name (upto file 0) 0 8 (by_magic name begin file) HeadAt (omega arith, omega (arith, long))
+    (λ front l. head_magic name begin file front long))
 
-head_reads : (name : List ℕ) (magic : List ℕ → List ℕ) → Reads name unasked (heading name magic) HeadAt
+head_reads : (name : List ℕ) (begin : Front) → Reads name unasked (heading name begin) HeadAt
 unfolding heading
-head_reads name magic = size_then name (by_size name magic) HeadAt (head_size name magic)
+head_reads name begin = size_then name (by_size name begin) HeadAt (head_size name begin)
 
 -- the text was read
 TextAt : Result Opened TableFault → Mark → Type 0
@@ -72,10 +73,10 @@ text_kept name file count text (Ok rules) long fits =
     memory_then name _ _ _ (none_then name _ _ _
     (ap (λ n. upto file (12 + n)) (sym long), omega (arith, long, fits)))
 
-text_reads : (name : List ℕ) (magic : List ℕ → List ℕ) → Reads name unasked (texting name magic) TextAt
+text_reads : (name : List ℕ) (begin : Front) → Reads name unasked (texting name begin) TextAt
 unfolding texting reading HeadAt TextAt
-text_reads name magic =
-    ok_then name unasked (heading name magic) (by_head name) HeadAt TextAt (head_reads name magic)
+text_reads name begin =
+    ok_then name unasked (heading name begin) (by_head name) HeadAt TextAt (head_reads name begin)
     (λ h t r. subst (λ x. Reads name x (by_head name h) TextAt) (sym r.0)
     (bytes_then name (upto h.file 12) 12 h.text _ TextAt (omega arith, (let f = r.1 in omega (arith, f)))
     (λ l long. either_then name _ (may_want_memory l) _ _ TextAt
@@ -102,8 +103,8 @@ pub open_tidy : (format : Format) (name : List ℕ) → Tidy (λ x. unasked) (op
 unfolding opening TextAt Any
 open_tidy format name =
     tidy_one name (opening format name) Any
-    (ok_then name unasked (texting name format.magic) (by_text format name) TextAt Any
-    (text_reads name format.magic)
+    (ok_then name unasked (texting name (front_of format)) (by_text format name) TextAt Any
+    (text_reads name (front_of format))
     (λ o t r. subst (λ x. Reads name x (by_text format name o) Any) (sym r.0)
     (open_rules format name o (format.read o.text) r.1))
     (λ e t r. tt))

@@ -6,8 +6,9 @@ use Rattle.std.proofs.lemmas.Slice.Eq.{bytes_eq-Decides}
 use Rattle.frz_sets.specs.Views.{RuleLines}
 use Rattle.frz_rules.specs.declared.fault.RulesCause.TheVariants.{TooLong}
 use Rattle.frz_table.specs.declared.fault.TableFault.{TableFault}
-use Rattle.frz_table.specs.declared.fault.TableFault.TheVariants.{Missing, Magic, Truncated, Extra, Rules, Size}
+use Rattle.frz_table.specs.declared.fault.TableFault.TheVariants.{Missing, Truncated, Extra, Rules, Size}
 use Rattle.frz_table.specs.declared.kind.FileKind.{FileKind}
+use Rattle.frz_table.specs.Faults.{magic_fault}
 use Rattle.frz_table.specs.Layout.{due_length}
 use Rattle.frz_table.specs.Opening.{Format, Contents, format_for, opened, with_magic, with_length, with_text, with_rules, of_size, of_length, kept_length, kept_text, kept_size}
 use Rattle.frz_table.specs.Steps.{HasSize, Refines}
@@ -38,8 +39,10 @@ long_enough format bytes h =
 -- step 3
 magic_tested : (format : Format) (bytes : List ℕ) (b : Bool)
     → bytes_eq (take 8 bytes) (format.magic (take 8 bytes)) ≡ b
-    → with_magic format bytes ≡ cond b (with_length format bytes) (Err Magic)
-magic_tested format bytes b h = ap (λ (t : Bool). cond t (with_length format bytes) (Err Magic)) h
+    → with_magic format bytes ≡ cond b (with_length format bytes)
+    (Err (magic_fault (format.other (take 8 bytes))))
+magic_tested format bytes b h =
+    ap (λ (t : Bool). cond t (with_length format bytes) (Err (magic_fault (format.other (take 8 bytes))))) h
 
 pub right_magic : (format : Format) (bytes : List ℕ) → take 8 bytes ≡ format.magic (take 8 bytes)
     → with_magic format bytes ≡ with_length format bytes

@@ -1,20 +1,28 @@
 -- How the faults of a table end a run.
-use Rattle.std.proofs.Common.{◌≡◌, refl, sym, subst, ℕ, Result, Ok, Err}
+use Rattle.std.proofs.Common.{◌≡◌, refl, sym, subst, ℕ, Option, None, Some, Result, Ok, Err}
 use Rattle.std.specs.Result.{IsErrOf}
 use Rattle.frz_asks.specs.Runs.{came, halted, refused, end_of, stop_end, Run}
 use Rattle.frz_asks.specs.Trees.{Asks}
 use Rattle.frz_store.specs.Told.{StoreTold}
 use Rattle.frz_store.specs.declared.outside.StoreFault.{StoreFault}
 use Rattle.frz_store.specs.declared.outside.StoreFault.TheVariants as store
-use Rattle.frz_table.specs.Faults.{IsOutside, TableCauses, UnlessOutside, fault_of, stop_of}
+use Rattle.frz_table.specs.Faults.{IsOutside, TableCauses, UnlessOutside, fault_of, magic_fault, stop_of}
+use Rattle.frz_table.specs.declared.other.OtherFile.{OtherFile}
 use Rattle.frz_table.specs.declared.fault.TableFault.{TableFault}
-use Rattle.frz_table.specs.declared.fault.TableFault.TheVariants.{Missing, Magic, Truncated, Extra, Rules, Size, Failed, NoMemory}
+use Rattle.frz_table.specs.declared.fault.TableFault.TheVariants.{Missing, Magic, Other, Truncated, Extra, Rules, Size, Failed, NoMemory}
 
 -- a fault of the store halts it
 pub halts : {B : Type 0} {q : Asks (Result B TableFault)} {old new : StoreTold} (h : StoreFault)
     → Run q (halted h) old new → Run q (stop_end {A = B} (stop_of (fault_of h))) old new
 halts store.Failed r = r
 halts store.NoMemory r = r
+
+-- and a file that begins as it is not due is refused
+pub refuses : {B : Type 0} {q : Asks (Result B TableFault)} {old new : StoreTold} (other : Option OtherFile)
+    → Run q (came (Err (magic_fault other))) old new
+    → Run q (stop_end {A = B} (stop_of (magic_fault other))) old new
+refuses None r = r
+refuses (Some other) r = r
 
 -- a fault of the file
 pub record OfFile (fault : TableFault) : Type 0 where
@@ -43,6 +51,7 @@ file_fault a b c d e = of_file (record {
 pub sort : (fault : TableFault) → Sort fault
 sort Missing = file_fault refl (λ x. x) (λ a b x. x) (λ e. cc) (λ e. cc)
 sort Magic = file_fault refl (λ x. x) (λ a b x. x) (λ e. cc) (λ e. cc)
+sort (Other o) = file_fault refl (λ x. x) (λ a b x. x) (λ e. cc) (λ e. cc)
 sort (Truncated a b) = file_fault refl (λ x. x) (λ c d x. x) (λ e. cc) (λ e. cc)
 sort (Extra a b) = file_fault refl (λ x. x) (λ a b x. x) (λ e. cc) (λ e. cc)
 sort (Rules f) = file_fault refl (λ x. x) (λ a b x. x) (λ e. cc) (λ e. cc)

@@ -12,11 +12,12 @@ use Rattle.frz_rules.specs.declared.fault.RulesCause.TheVariants.{TooLong}
 use Rattle.frz_rules.specs.declared.fault.RulesFault.{RulesFault}
 use Rattle.frz_sets.specs.Views.{RuleLines}
 use Rattle.frz_table.specs.declared.fault.TableFault.{TableFault}
-use Rattle.frz_table.specs.declared.fault.TableFault.TheVariants.{Missing, Magic, Truncated, Extra, Rules, Size}
+use Rattle.frz_table.specs.declared.fault.TableFault.TheVariants.{Missing, Truncated, Extra, Rules, Size}
 use Rattle.frz_table.specs.declared.head.Head.{Head}
-use Rattle.frz_table.specs.Layout.{due_length, pieces_of, place_of}
+use Rattle.frz_table.specs.Faults.{magic_fault}
+use Rattle.frz_table.specs.Layout.{Front, due_length, pieces_of, place_of}
 use Rattle.frz_table.specs.Numbers.{numbers}
-use Rattle.frz_table.specs.Opening.{Contents, Format}
+use Rattle.frz_table.specs.Opening.{Contents, Format, front_of}
 
 -- a number of four bytes, the lowest first
 abbrev pub number_of : List ℕ → ℕ → Asks ℕ
@@ -29,20 +30,20 @@ by_length file text =
     (if nat_lt file (16 + text) then gives (Err (Truncated file (16 + text)))
     else gives (Ok (record { file = file; text = text })))
 
-abbrev pub by_magic : (name : List ℕ) (magic : List ℕ → List ℕ) → ℕ → List ℕ
-    → Asks (Result Head TableFault)
-by_magic name magic file front =
-    if bytes_eq front (magic front) then bind (number_of name 8) (by_length file) else gives (Err Magic)
+abbrev pub by_magic : List ℕ → Front → ℕ → List ℕ → Asks (Result Head TableFault)
+by_magic name front file bytes =
+    if bytes_eq bytes (front.magic bytes) then bind (number_of name 8) (by_length file)
+    else gives (Err (magic_fault (front.other bytes)))
 
-abbrev pub by_size : (name : List ℕ) (magic : List ℕ → List ℕ) → Option ℕ → Asks (Result Head TableFault)
-by_size name magic None = gives (Err Missing)
-by_size name magic (Some file) =
+abbrev pub by_size : List ℕ → Front → Option ℕ → Asks (Result Head TableFault)
+by_size name front None = gives (Err Missing)
+by_size name front (Some file) =
     if nat_lt file 16 then gives (Err (Truncated file 16))
-    else bind (ask_bytes name 0 8) (by_magic name magic file)
+    else bind (ask_bytes name 0 8) (by_magic name front file)
 
--- the first five steps: the file is there, long enough, of the magic that is due, and has room for its text
-unfoldable pub heading : (name : List ℕ) (magic : List ℕ → List ℕ) → Asks (Result Head TableFault)
-heading name magic = bind (ask_size name) (by_size name magic)
+-- the first five steps: the file is there, long enough, begins as is due, and has room for its text
+unfoldable pub heading : List ℕ → Front → Asks (Result Head TableFault)
+heading name front = bind (ask_size name) (by_size name front)
 
 -- the length of a file, and the text in it with its rules
 pub record Opened : Type 0 where
@@ -65,8 +66,8 @@ abbrev pub by_head : List ℕ → Head → Asks (Result Opened TableFault)
 by_head name head = bind (ask_bytes name 12 head.text) (reading head.file)
 
 -- and then the text gives rules
-unfoldable pub texting : (name : List ℕ) (magic : List ℕ → List ℕ) → Asks (Result Opened TableFault)
-texting name magic = bind_ok (heading name magic) (by_head name)
+unfoldable pub texting : List ℕ → Front → Asks (Result Opened TableFault)
+texting name front = bind_ok (heading name front) (by_head name)
 
 -- the kept size is that of the rules, and the length of the file is the one that is due by it
 abbrev pub sized_as : Opened → ℕ → ℕ → Result (Unit {0}) TableFault
@@ -95,7 +96,7 @@ by_text format name opened = by_rules format name opened (format.read opened.tex
 
 -- all of it
 unfoldable pub opening : Format → List ℕ → Asks (Result Contents TableFault)
-opening format name = bind_ok (texting name format.magic) (by_text format name)
+opening format name = bind_ok (texting name (front_of format)) (by_text format name)
 
 -- how many codes of a list come next, behind these
 abbrev pub next_count : ℕ → List ℕ → ℕ

@@ -1,5 +1,5 @@
 -- The faults of a table that come from the store, from memory or from the reader of rules.
-use Rattle.std.specs.Prelude.{◌≡◌, ℕ, ◌≤◌, Result, OnOk, IfErr, ⊤}
+use Rattle.std.specs.Prelude.{◌≡◌, ℕ, ◌≤◌, Option, None, Some, Result, OnOk, IfErr, ⊤}
 use Rattle.std.specs.Result.{IsErrOf}
 use Rattle.frz_asks.specs.Runs.{Stop, refused, stopped}
 use Rattle.frz_rules.specs.declared.fault.RulesError.{RulesError}
@@ -8,7 +8,8 @@ use Rattle.frz_store.specs.Outside.{Rose}
 use Rattle.frz_store.specs.declared.outside.StoreFault.{StoreFault}
 use Rattle.frz_store.specs.declared.outside.StoreFault.TheVariants as store
 use Rattle.frz_table.specs.declared.fault.TableFault.{TableFault}
-use Rattle.frz_table.specs.declared.fault.TableFault.TheVariants.{Rules, Failed, NoMemory}
+use Rattle.frz_table.specs.declared.fault.TableFault.TheVariants.{Magic, Other, Rules, Failed, NoMemory}
+use Rattle.frz_table.specs.declared.other.OtherFile.{OtherFile}
 
 abbrev pub fault_of : StoreFault → TableFault
 fault_of store.Failed = Failed
@@ -17,6 +18,11 @@ fault_of store.NoMemory = NoMemory
 abbrev pub rules_fault : RulesError → TableFault
 rules_fault (reading.Bad fault) = Rules fault
 rules_fault reading.NoMemory = NoMemory
+
+-- the fault of a file whose first eight bytes are not due, by what else it is
+abbrev pub magic_fault : Option OtherFile → TableFault
+magic_fault None = Magic
+magic_fault (Some other) = Other other
 
 -- the store failed, or there was no memory
 abbrev pub IsOutside : TableFault → Type 0

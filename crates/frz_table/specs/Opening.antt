@@ -9,16 +9,20 @@ use Rattle.frz_rules.specs.Text.{rules_of}
 use Rattle.frz_rules.specs.declared.fault.RulesCause.TheVariants.{TooLong}
 use Rattle.frz_rules.specs.declared.fault.RulesFault.{RulesFault}
 use Rattle.frz_table.specs.declared.fault.TableFault.{TableFault}
-use Rattle.frz_table.specs.declared.fault.TableFault.TheVariants.{Missing, Magic, Truncated, Extra, Rules, Size, Failed, NoMemory}
+use Rattle.frz_table.specs.declared.fault.TableFault.TheVariants.{Missing, Truncated, Extra, Rules, Size, Failed, NoMemory}
 use Rattle.frz_table.specs.declared.kind.FileKind.{FileKind}
+use Rattle.frz_table.specs.declared.other.OtherFile.{OtherFile}
+use Rattle.frz_table.specs.Faults.{magic_fault}
 use Rattle.frz_table.specs.Numbers.{number_at}
-use Rattle.frz_table.specs.Layout.{magic_of, due_length, due_magic, kind_begun}
+use Rattle.frz_table.specs.Layout.{Front, magic_of, due_length, due_magic, kind_begun, other_file}
 use Rattle.frz_table.specs.Tables.{Begins, Table, IsTableFile}
 
 -- what distinguishes one format of table files from another: the magic that is due where a file
--- begins with eight bytes, how it reads a text, and the size that rules have
+-- begins with eight bytes, what else the file is where these are not due, how it reads a text, and
+-- the size that rules have
 pub record Format : Type 0 where
   pub magic : List ℕ → List ℕ
+  pub other : List ℕ → Option OtherFile
   pub read : List ℕ → Result RuleLines RulesFault
   pub size : RuleLines → ℕ
 
@@ -26,9 +30,13 @@ pub record Format : Type 0 where
 abbrev pub format_for : Option FileKind → Format
 format_for kind = record {
   magic = due_magic (option_map magic_of kind);
+  other = other_file (option_map magic_of kind);
   read = rules_of;
   size = λ rules. size_of rules.groups;
 }
+
+abbrev pub front_of : Format → Front
+front_of format = record { magic = format.magic; other = format.other }
 
 abbrev pub table_format : FileKind → Format
 table_format kind = format_for (Some kind)
@@ -87,7 +95,8 @@ with_length format bytes =
 
 abbrev pub with_magic : Format → List ℕ → Result Contents TableFault
 with_magic format bytes =
-    if bytes_eq (take 8 bytes) (format.magic (take 8 bytes)) then with_length format bytes else Err Magic
+    if bytes_eq (take 8 bytes) (format.magic (take 8 bytes)) then with_length format bytes
+    else Err (magic_fault (format.other (take 8 bytes)))
 
 -- what opening a name gives: the name holds these bytes, or is not there
 unfoldable pub opened : Format → Option (List ℕ) → Result Contents TableFault

@@ -3,6 +3,7 @@ ghost use Rattle.std.specs.Prelude.{◌≡◌};
 ghost use Rattle.frz_table.specs.declared.fault.TableFault.TheVariants.{NoMemory as MemoryFault};
 ghost use Rattle.frz_table.specs.Faults.{fault_of, rules_fault};
 
+use crate::OtherFile;
 use frz_board::NoMemory;
 use frz_rules::{RulesError, RulesFault};
 use frz_store::StoreFault;
@@ -10,14 +11,16 @@ use std::alloc::AllocError;
 use thiserror::Error;
 
 /// The first thing that is wrong with a table file, or why it could not be read. `Truncated` and
-/// `Extra` say how many bytes the file has and how many are due, and `Size` gives the size in the
-/// file and that of its rules.
+/// `Extra` say how many bytes the file has and how many are due, `Size` gives the size in the file
+/// and that of its rules, and `Other` says what else the file is, where it is opened as its own kind.
 #[derive(Clone, Copy, Debug, PartialEq, Eq, Error)]
 pub enum TableFault {
     #[error("there is no such file")]
     Missing,
     #[error("the file does not begin as a table of this kind")]
     Magic,
+    #[error("the file is of another kind or time")]
+    Other(OtherFile),
     #[error("the file is cut short")]
     Truncated(u64, u64),
     #[error("the file goes on behind the table")]

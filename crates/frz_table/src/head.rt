@@ -4,12 +4,13 @@ ghost use Rattle.frz_asks.specs.Runs.{Run, Sized, end_of};
 ghost use Rattle.frz_store.specs.Told.{store_of};
 ghost use Rattle.frz_table.specs.Asking.{heading};
 ghost use Rattle.frz_table.specs.Faults.{stop_of};
-ghost use Rattle.frz_table.specs.Layout.{due_magic};
+ghost use Rattle.frz_table.specs.Layout.{due_front};
 ghost use Rattle.frz_table.specs.Tables.{Begins};
 
 use crate::TableFault;
 use crate::kind::due_bytes;
 use crate::numbers::read_number;
+use crate::other::magic_fault;
 use frz_asks::{read_at, size_of};
 use frz_rules::{RulesCause, RulesFault};
 use frz_store::Store;
@@ -32,7 +33,7 @@ pub(crate) fn read_head<S: Store>(
     name: &str,
     magic: Option<[u8; 8]>,
 ) -> Result<(Head, [u8; 8]), TableFault>
-    ensures run { Run (heading name.now (due_magic magic)) (end_of stop_of (λ h. h.0) result)
+    ensures run { Run (heading name.now (due_front magic)) (end_of stop_of (λ h. h.0) result)
         (store_of S.Store store.old) (store_of S.Store store.new) }
     ensures begins { IfOk result (λ h. Begins (S.files store.old) name.now h.1) }
     ensures sized { IfOk result (λ h. Sized (S.files store.new) name.now h.0.file) }
@@ -48,7 +49,7 @@ pub(crate) fn read_head<S: Store>(
     let mut front = [0; 8];
     read_at(store, name, 0, &mut front)?;
     if front.as_slice() != due_bytes(magic, &front).as_slice() {
-        return Err(TableFault::Magic);
+        return Err(magic_fault(magic, &front));
     }
     let text = read_number(store, name, 8)?;
     if text > LONGEST_TEXT {

@@ -45,7 +45,7 @@ impl FileKind {
         match self {
             FileKind::Plain => b"FREEZER2",
             FileKind::Chained => b"FREEZERC",
-            FileKind::Atlas => b"FREEZERA",
+            FileKind::Atlas => b"FREEZERB",
         }
     }
 }

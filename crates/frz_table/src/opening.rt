@@ -88,7 +88,8 @@ pub fn open_kind<S: Store>(
 }
 
 /// Opens a table file as the kind as which it begins: `Atlas` where it begins as a table that leans
-/// on others, and else `Plain`. The file is not changed.
+/// on others, and else `Plain`. A file that another program or another time made is refused as what
+/// it is. The file is not changed.
 pub fn open_own<S: Store>(alloc: Global, store: &mut S, name: &str) -> Result<TableFile, TableFault>
     ensures run { Run (opening own_format name.now) (end_of stop_of contents_of result)
         (store_of S.Store store.old) (store_of S.Store store.new) }

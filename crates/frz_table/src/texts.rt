@@ -6,7 +6,7 @@ ghost use Rattle.frz_store.specs.Files.{Covers};
 ghost use Rattle.frz_store.specs.Told.{store_of};
 ghost use Rattle.frz_table.specs.Asking.{texting};
 ghost use Rattle.frz_table.specs.Faults.{stop_of};
-ghost use Rattle.frz_table.specs.Layout.{due_magic};
+ghost use Rattle.frz_table.specs.Layout.{due_front};
 ghost use Rattle.frz_table.specs.Tables.{Begins, IsRead};
 ghost use Rattle.frz_table.specs.Views.{opened_of};
 
@@ -55,7 +55,7 @@ pub fn open_text<S: Store>(
     name: &str,
     magic: Option<[u8; 8]>,
 ) -> Result<Text, TableFault>
-    ensures run { Run (texting name.now (due_magic magic)) (end_of stop_of opened_of result)
+    ensures run { Run (texting name.now (due_front magic)) (end_of stop_of opened_of result)
         (store_of S.Store store.old) (store_of S.Store store.new) }
     ensures begins { IfOk result (λ t. Begins (S.files store.old) name.now t.magic) }
     ensures sized { IfOk result (λ t. Sized (S.files store.new) name.now t.file) }

@@ -6,7 +6,6 @@ use Rattle.frz_store.specs.Told.{store_of}
 use Rattle.frz_table.proofs.Lemmas.{refused_as}
 use Rattle.frz_backs.specs.BackTable.{BackTable}
 use Rattle.frz_atlas.specs.Opening.{OpensAll, RefusesAll}
-use Rattle.frz_atlas.specs.declared.fault.AtlasFault.{AtlasFault}
 use Rattle.frz_atlas.proofs.OneMore.{last_open, last_refused, last_wanted, refused_among}
 use Rattle.frz_atlas.proofs.opening.open_all.Goals as goal
 

@@ -7,6 +7,7 @@ use Rattle.frz_backs.specs.Loaded.{link_loaded}
 use Rattle.frz_atlas.specs.Reading.{RefusesToRead}
 use Rattle.frz_atlas.specs.declared.fault.AtlasFault.{AtlasFault}
 use Rattle.frz_atlas.proofs.AtlasLoaded.{atlas_loaded, back_refused, not_loaded, not_opened}
+use Rattle.frz_atlas.proofs.OwnKinds.{own_kind}
 use Rattle.frz_atlas.proofs.reading.load_atlas.Goals as goal
 
 pub returns-in-Err-clause-refused : goal.returns-in-Err-clause-refused
@@ -14,7 +15,7 @@ returns-in-Err-clause-refused g c =
     let table = c.args.table.now in
     let behind = map string_bytes c.args.behind.now in
     let old = store_of g.S.Store c.args.store.now in
-    let new = store_of g.S.Store c.open_kind.new.store in
+    let new = store_of g.S.Store c.open_own.new.store in
     subst (λ (f : AtlasFault). RefusesToRead table behind old new f) (sym c.of_table.ensures)
     (not_opened table behind old new c.in-Err.fault c.in-Err.ensures.may_refuse)
 
@@ -23,7 +24,7 @@ returns-in_err-backs-clause-refused g c =
     let table = c.args.table.now in
     let behind = map string_bytes c.args.behind.now in
     let old = store_of g.S.Store c.args.store.now in
-    let mid = store_of g.S.Store c.open_kind.new.store in
+    let mid = store_of g.S.Store c.open_own.new.store in
     let new = store_of g.S.Store c.load_behind.new.store in
     let e = c.in-Ok.ensures in
     refused_as (RefusesToRead table behind old new) c.from_residual.result _
@@ -37,9 +38,9 @@ returns-in-Ok-load-clause-loaded g c =
     let b = c.in_ok-backs.ensures in
     let k = c.in-Ok-load.ensures in
     atlas_loaded _ c.args.table.now (map string_bytes c.args.behind.now)
-    (store_of g.S.Store c.args.store.now) (store_of g.S.Store c.open_kind.new.store)
+    (store_of g.S.Store c.args.store.now) (store_of g.S.Store c.open_own.new.store)
     (store_of g.S.Store c.load_behind.new.store) (store_of g.S.Store c.load.new.store)
-    e.may_open e.quiet.unwritten.files b.quiet.unwritten.files e.asked e.calls e.kind e.name
+    e.may_open e.quiet.unwritten.files b.quiet.unwritten.files e.asked e.calls (own_kind _ _ _ e.kind) e.name
     b.loaded k.may_keep k.asked k.calls
 
 pub returns-in-Err-load-clause-refused : goal.returns-in-Err-load-clause-refused
@@ -47,7 +48,7 @@ returns-in-Err-load-clause-refused g c =
     let table = c.args.table.now in
     let behind = map string_bytes c.args.behind.now in
     let old = store_of g.S.Store c.args.store.now in
-    let mid = store_of g.S.Store c.open_kind.new.store in
+    let mid = store_of g.S.Store c.open_own.new.store in
     let then = store_of g.S.Store c.load_behind.new.store in
     let new = store_of g.S.Store c.load.new.store in
     let e = c.in-Ok.ensures in

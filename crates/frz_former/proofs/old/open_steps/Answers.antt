@@ -1,13 +1,14 @@
 use Rattle.std.proofs.Common.{◌≡◌, ap, ℕ, List, Some}
 use Rattle.std.proofs.lemmas.Result.{err_from_is_err_and}
-use Rattle.frz_table.specs.Layout.{due_magic}
+use Rattle.frz_table.specs.Layout.{due_front}
+use Rattle.frz_table.specs.Opening.{front_of}
 use Rattle.frz_former.specs.OldFiles.{old_format, old_magic}
 use Rattle.frz_former.proofs.FormerFiles.{old_read, old_refused}
 use Rattle.frz_table.proofs.Lemmas.{no_name, no_text, not_ruled, opens, other_size}
 use Rattle.frz_former.proofs.old.open_steps.Goals as goal
 
-due : {magic : List ℕ} → magic ≡ old_magic → due_magic (Some magic) ≡ old_format.magic
-due e = ap (λ (l : List ℕ). due_magic (Some l)) e
+due : {magic : List ℕ} → magic ≡ old_magic → due_front (Some magic) ≡ front_of old_format
+due e = ap (λ (l : List ℕ). due_front (Some l)) e
 
 pub returns-in_err-opened-clause-run : goal.returns-in_err-opened-clause-run
 returns-in_err-opened-clause-run g c =

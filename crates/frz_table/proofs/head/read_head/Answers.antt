@@ -3,16 +3,16 @@ use Rattle.std.proofs.lemmas.Result.{err_from_is_err_and}
 use Rattle.frz_asks.proofs.Lemmas.{covers, halt_first, run_none, run_on, size_told, sized_on}
 use Rattle.frz_store.specs.Told.{store_of}
 use Rattle.frz_table.specs.Asking.{by_size, heading}
-use Rattle.frz_table.specs.Layout.{due_magic}
+use Rattle.frz_table.specs.Layout.{due_front}
 use Rattle.frz_table.proofs.Heads.{begun, short, long, other, same, too_long, cut, whole}
-use Rattle.frz_table.proofs.Stops.{halts}
+use Rattle.frz_table.proofs.Stops.{halts, refuses}
 use Rattle.frz_table.proofs.Tests.{not_is_true, not_is_false}
 use Rattle.frz_table.proofs.head.read_head.Goals as goal
 
 pub returns-in_default-clause-run : goal.returns-in_default-clause-run
 unfolding heading
 returns-in_default-clause-run g c =
-    run_on (by_size c.args.name.now (due_magic c.args.magic)) (rw c.in_default.is at c.in_ok-file.ensures)
+    run_on (by_size c.args.name.now (due_front c.args.magic)) (rw c.in_default.is at c.in_ok-file.ensures)
     (run_none _ _)
 
 pub returns-in_err-file-clause-run : goal.returns-in_err-file-clause-run
@@ -39,9 +39,10 @@ returns-in_err-read_at-clause-run g c =
 
 pub returns-then-ne-clause-run : goal.returns-then-ne-clause-run
 returns-then-ne-clause-run g c =
-    other _ _ _ _ _ (rw c.in-Some.is at c.in_ok-file.ensures) _ _ c.in_ok-read_at.ensures.came
+    rw c.magic_fault.ensures
+    (refuses _ (other _ _ _ _ _ (rw c.in-Some.is at c.in_ok-file.ensures) _ _ c.in_ok-read_at.ensures.came
     (omega arith)
-    (not_is_true _ (rw (c.as_slice.ensures, c.as_slice-2.ensures, c.due_bytes.ensures) at c.if-ne.ensures))
+    (not_is_true _ (rw (c.as_slice.ensures, c.as_slice-2.ensures, c.due_bytes.ensures) at c.if-ne.ensures))))
 
 pub read_number-requires : goal.read_number-requires
 read_number-requires g c =

@@ -1,5 +1,5 @@
 use Rattle.frz_answer.proofs.Lemmas.{failed_first, gave_up, wrote_next}
-use Rattle.frz_atlas_prelude.proofs.back_lines.write_magic.Goals as goal
+use Rattle.frz_atlas_prelude.proofs.back_lines.write_words.Goals as goal
 
 pub returns-in_err-write_word : goal.returns-in_err-write_word
 returns-in_err-write_word g c =

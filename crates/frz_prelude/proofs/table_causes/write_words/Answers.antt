@@ -1,5 +1,5 @@
 use Rattle.frz_answer.proofs.Lemmas.{failed_first, gave_up, wrote_next}
-use Rattle.frz_prelude.proofs.table_causes.write_magic.Goals as goal
+use Rattle.frz_prelude.proofs.table_causes.write_words.Goals as goal
 
 pub returns-in_err-write_piece : goal.returns-in_err-write_piece
 returns-in_err-write_piece g c =
