@@ -2,33 +2,22 @@
 ghost use Rattle.std.specs.Prelude.{◌≡◌};
 ghost use Rattle.frz_fide.specs.Valid.{IsValid};
 ghost use Rattle.frz_premises.specs.Saying as words;
-ghost use Rattle.frz_backs.specs.Loaded.{leans_as, link_loaded};
+ghost use Rattle.frz_backs.specs.Loaded.{link_loaded};
 
 use frz_arena::is_win;
-use frz_backs::{BackTable, codes_on, lines_count};
+use frz_backs::{BackTable, codes_on, leans, lines_count};
 use frz_bits::Bitboards;
 use frz_board::Colour;
 use frz_sets::Value;
-use frz_table::FileKind;
 
 /// The code of a position where a side holds.
 const HOLD: u32 = 1;
-
-/// Does a table of this kind lean on others?
-fn leans(kind: FileKind) -> bool
-    ensures { result ≡ leans_as kind }
-{
-    match kind {
-        FileKind::Atlas => true,
-        _ => false,
-    }
-}
 
 /// Are the plies of the side's wins in the table plies to mate?
 pub fn counts_wins(back: &BackTable, side: Colour) -> bool
     ensures { result ≡ words.counts_wins (link_loaded back.now) side }
 {
-    !leans(back.table.kind()) && lines_count(side, &back.table.rules().exits)
+    !leans(back) && lines_count(side, &back.table.rules().exits)
 }
 
 /// Is it the code of a hold or of a win?
