@@ -6,7 +6,7 @@ use Rattle.std.proofs.lemmas.Bool.Decides.{nat_tests}
 use Rattle.frz_board.specs.declared.man.Colour.{Colour}
 use Rattle.frz_board.specs.Boards.{Board}
 use Rattle.frz_board.specs.Moving.{Step}
-use Rattle.frz_fide.specs.Legal.{is_legal}
+use Rattle.frz_fide.specs.Legal.{after, is_legal}
 use Rattle.frz_fide.proofs.Lemmas.{only_legal}
 use Rattle.frz_sets.specs.declared.exit.Value.{Value}
 use Rattle.frz_sets.specs.Sets.{size_of}
@@ -34,7 +34,7 @@ use Rattle.frz_reasons.specs.TellingDenials.{TellsDenials}
 use Rattle.frz_reasons.specs.TellingFailures.{TellsFailure}
 use Rattle.frz_commands_why.specs.declared.decider.Decider.{Decider}
 use Rattle.frz_commands_why.specs.Telling.{EndsWhy, TellsBehind, TellsWhy, ToldAt, fails, holds, neither, wins}
-use Rattle.frz_commands_why.specs.Texts.{LeavesLegally, end_text, status_by, wrong_in, wrong_text}
+use Rattle.frz_commands_why.specs.Texts.{LeavesLegally, end_text, exit_lines, exit_text, lack_text, status_by, wrong_in, wrong_text}
 
 -- a code that is neither 0, nor that of a hold or of a win, is that of a failure
 pub left_failing : (c : ℕ) → is_win c ≡ false → c ≢ 1 → c ≢ 0 → is_failure c ≡ true
@@ -67,6 +67,20 @@ leaves_legally rules value side q Renounced ends = tt
 leaves_legally rules value side q (Left number m v) ends =
     subst (λ (o : Option Board). IfSome o (λ p. is_legal p m ≡ true)) (sym ends.at)
     (only_legal ends.from m ends.legal).1
+
+-- the exit by a move from the position was written
+pub left_wrote : (decider : Board → Decider) (value : Value) (p : Board) (m : Step) (q here : Board)
+    (d : Decider) → q ≡ after p m → here ≡ q → d ≡ decider q → (result : Result (Unit {0}) Failed)
+    (old new : SinkTold) →
+    WroteText (exit_lines value here d ++ lack_text d p m) result old new →
+    WroteText (exit_text decider value m (Some p)) result old new
+left_wrote decider value p m q here d led same is result old new wrote =
+    subst (λ (x : Board). WroteText (exit_lines value x (decider x) ++ lack_text (decider x) p m)
+    result old new) led
+    (subst (λ (x : Board). WroteText (exit_lines value x (decider q) ++ lack_text (decider q) p m)
+    result old new) same
+    (subst (λ (y : Decider). WroteText (exit_lines value here y ++ lack_text y p m) result old new)
+    is wrote))
 
 -- that the reason at the end of a way is true of the position behind it
 abbrev pub WayEnds : Type 0

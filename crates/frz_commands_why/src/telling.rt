@@ -1,8 +1,9 @@
 //! Tells why the bound of a side at a number is no better one, by codes in memory.
-ghost use Rattle.std.specs.Prelude.{◌≡◌, ◌≤◌, ◌<◌, ◌+◌, ◌/◌, ◌^◌, true, length, map, slice_index, IfOk, IfSome, IsSome};
+ghost use Rattle.std.specs.Prelude.{◌≡◌, ◌≤◌, ◌<◌, ◌+◌, ◌/◌, ◌^◌, true, length, map, slice_index, IfOk, IfSome, IsSome, Some};
 ghost use Rattle.frz_arena.specs.Codes.{is_failure};
 ghost use Rattle.frz_backs.specs.FileOn.{loaded_back};
 ghost use Rattle.frz_fide.specs.Legal.{is_legal};
+ghost use Rattle.frz_fide.specs.Valid.{IsValid};
 ghost use Rattle.frz_game.specs.Games.{graph_by};
 ghost use Rattle.frz_game.specs.Numbers.{position_at};
 ghost use Rattle.frz_reasons.specs.LocalEntries.{wrong_at};
@@ -17,9 +18,10 @@ ghost use Rattle.frz_commands_why.specs.Texts as words;
 ghost use Rattle.frz_commands_why.specs.Texts.{LeavesLegally};
 
 use crate::decider::Deciding;
-use crate::texts::{write_exit, write_wrong_entry};
+use crate::texts::{write_exit, write_lack, write_wrong_entry};
 use frz_answer::{End, Status, write_piece};
 use frz_arena::is_win;
+use frz_bits::Bitboards;
 use frz_board::{Colour, Move};
 use frz_bound_lines::write_kept_line;
 use frz_exits::ExitBook;
@@ -34,7 +36,28 @@ use frz_steps::Steps;
 use frz_store::{Failed, Sink};
 use std::sync::ledger::Ledger;
 
-/// Writes the lines of the exit to which a legal move leads from the position of the number.
+/// Writes the lines of the exit by a legal move, and its repairs.
+fn write_left_from<O: Sink>(
+    deciding: &Deciding<'_>,
+    p: &Bitboards,
+    mv: Move,
+    value: Value,
+    out: &mut O,
+) -> Result<(), Failed>
+    requires sound { IsSound deciding.now.rules.now }
+    requires valid { IsValid p.now }
+    requires legal { is_legal p.now mv ≡ true }
+    ensures { WroteText (words.exit_text (decider_of deciding.now.numbers.now
+        deciding.now.rules.now (map loaded_back deciding.now.backs.now)) value mv (Some p.now))
+        result (sink_of O.Sink out.old) (sink_of O.Sink out.new) }
+{
+    let q = after(p, mv);
+    let decider = deciding.decider(&q);
+    write_exit(value, q.as_position(), decider, out)?;
+    write_lack(decider, p, mv, out)
+}
+
+/// The same for a move from the position of the number.
 fn write_left<O: Sink>(
     set: &Set,
     deciding: &Deciding<'_>,
@@ -46,16 +69,13 @@ fn write_left<O: Sink>(
     requires sound { IsSound deciding.now.rules.now }
     requires legal { IfSome (position_at set.now number) (λ p. is_legal p mv ≡ true) }
     ensures { WroteText (words.exit_text (decider_of deciding.now.numbers.now
-        deciding.now.rules.now (map loaded_back deciding.now.backs.now)) value
-        (words.position_after set.now number mv)) result
+        deciding.now.rules.now (map loaded_back deciding.now.backs.now)) value mv
+        (position_at set.now number)) result
         (sink_of O.Sink out.old) (sink_of O.Sink out.new) }
 {
     match set.boards_at(number) {
         None => Ok(()),
-        Some(p) => {
-            let q = after(&p, mv);
-            write_exit(value, q.as_position(), deciding.decider(&q), out)
-        }
+        Some(p) => write_left_from(deciding, &p, mv, value, out),
     }
 }
 
