@@ -71,7 +71,8 @@ module _ (own : BackTable) (backs : List BackTable) (side : Colour) (p : Board) 
   pub steps_inside : (number before now : ℕ) → number ≡ Num own.table.rules.groups p →
       Member own.table.rules.groups p →
       now ≤ before + telling_steps (slice_index (codes_loaded own side) number)
-      (slice_index (codes_loaded own (other_of side)) number) (length (legal_moves_of p)) → now ≤ before + stepping_in own side p
+      (slice_index (codes_loaded own (other_of side)) number) (length (legal_moves_of p)) →
+      now ≤ before + stepping_in own side p
   steps_inside number before now is member few =
       subst (λ (b : Bool). now ≤ before + (if b
       then telling_steps (slice_index (codes_loaded own side) (Num own.table.rules.groups p))

@@ -121,8 +121,8 @@ module _ (rules : RuleLines) (value : Board → Value) (side : Colour) (kept : C
       by_hold true e zero =
           let hold = eqb-true code 1 e in
           let d = denied_there (graph_by rules value) side (kept side) number hold in
-          let tale = opponent_there rules value (other_of side) (kept (other_of side)) decider number
-          there d.wrong_one in
+          let tale = opponent_there rules value (other_of side) (kept (other_of side)) decider
+          number there d.wrong_one in
           record {
             text = denials_text d.denials ++ tale.text;
             wrong = tale.wrong;

@@ -344,8 +344,8 @@ module _ (laws : WayLaws) (table : List ℕ) (behind : List (List ℕ)) (side : 
         → MeansWhy table behind side p files a
     by_hold hold denials (Some m) denied text w (met_wrong x) e =
         means_wrong _ m (holds hold denials (Some m) denied [] (Some m) (met_wrong m)) e
-        (λ exact. none_wrong rules value side (kept side) number p number_gives_position (exact side)
-        denials m denied)
+        (λ exact. none_wrong rules value side (kept side) number p number_gives_position
+        (exact side) denials m denied)
     by_hold hold denials None denied text w (has_bound stays) e =
         hold_so hold denials denied [] (bound_so hold denials denied stays) e
     by_hold hold denials None denied text w (has_none failing t x told) e =

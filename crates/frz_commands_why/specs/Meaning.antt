@@ -84,8 +84,8 @@ pub record TellsNone (contents : Contents) (bytes : List ℕ) (tables : List Tab
       AreBest contents.rules (value_behind contents bytes tables) side
       (Num contents.rules.groups p) arms
 
--- the bound is a hold, and these are the rows that tell how a win is denied to the side. Behind them
--- the same is told of an opponent that has no bound as of a side that has none, and else nothing
+-- the bound is a hold, and these are the rows that tell how a win is denied to the side. Behind
+-- them the same is told of an opponent that has no bound as of a side that has none, and else nothing
 pub record TellsHold (contents : Contents) (bytes : List ℕ) (tables : List TableBytes)
     (side : Colour) (p : Board) (text : List ℕ) : Type 0 where
   pub hold : code_at contents bytes side p ≡ code_of Holds

@@ -26,8 +26,8 @@ use Rattle.frz_reasons.specs.ReasonTexts.{denials_text, moves_text}
 use Rattle.frz_commands_why.specs.declared.decider.Decider.{Decider}
 use Rattle.frz_commands_why.specs.Texts.{end_text, status_by, wrong_in, wrong_text}
 
--- the way on which the side fails by its codes, and its end, with the entry that is wrong, if one is
--- met: `decider` says what decides a position outside
+-- the way on which the side fails by its codes, and its end, with the entry that is wrong, if one
+-- is met: `decider` says what decides a position outside
 pub data ToldFailure (rules : RuleLines) (value : Board → Value) (side : Colour)
     (codes : List ℕ) (decider : Board → Decider) (number : ℕ) : List ℕ → Option Wrong → Type 0 where
   on_way : (arms : List (Arm Step ℕ Value)) (reason : Reason) →
@@ -64,7 +64,8 @@ pub data ToldAt (rules : RuleLines) (value : Board → Value) (side : Colour)
   holds : slice_index (kept side) number ≡ 1 → (denials : List Denial) (met : Option Wrong) →
       DeniesWin (graph_by rules value) side (kept side) number denials met →
       (text : List ℕ) (wrong : Option Wrong) →
-      ToldOpponent rules value (other_of side) (kept (other_of side)) decider number met text wrong →
+      ToldOpponent rules value (other_of side) (kept (other_of side)) decider number met text
+      wrong →
       ToldAt rules value side kept decider number (denials_text denials ++ text) wrong
   -- of a failure, the way on which the side fails
   fails : is_failure (slice_index (kept side) number) ≡ true → (text : List ℕ)
@@ -113,8 +114,8 @@ pub record EndsWhy (rules : RuleLines) (value : Board → Value) (side : Colour)
   pub text : List ℕ
   pub wrong : Option Wrong
   pub told : ToldAt rules value side kept decider number text wrong
-  pub said : Said (status_by wrong) (why_text side (slice_index (kept side) number) text wrong) end old
-      new
+  pub said : Said (status_by wrong) (why_text side (slice_index (kept side) number) text wrong)
+      end old new
 
 -- the most steps that telling takes at a number with these codes of the side and of its opponent,
 -- and so many moves

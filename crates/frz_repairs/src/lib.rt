@@ -1,4 +1,4 @@
-//! What a text lacks where a move leaves its set and nothing says what the position behind is worth.
+//! What a text lacks where a move leaves its set and nothing values the position behind it.
 #![tactic(auto)]
 
 mod repairs;

@@ -7,8 +7,11 @@ returns-in_err-write_wanted g c =
 
 pub returns-in_err-write_piece : goal.returns-in_err-write_piece
 returns-in_err-write_piece g c =
-    gave_up c.from_residual-in_err-write_piece.ensures.0 (failed_next c.in_ok-write_wanted.ensures.ok (failed_first _ c.in_err-write_piece.ensures.failed))
+    gave_up c.from_residual-in_err-write_piece.ensures.0
+    (failed_next c.in_ok-write_wanted.ensures.ok
+    (failed_first _ c.in_err-write_piece.ensures.failed))
 
 pub returns : goal.returns
 returns g c =
-    wrote_next c.in_ok-write_wanted.ensures.ok (wrote_next c.in_ok-write_piece.ensures.ok c.write_standing_end.ensures)
+    wrote_next c.in_ok-write_wanted.ensures.ok
+    (wrote_next c.in_ok-write_piece.ensures.ok c.write_standing_end.ensures)

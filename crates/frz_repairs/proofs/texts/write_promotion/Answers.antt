@@ -7,8 +7,11 @@ returns-in_err-write_wanted g c =
 
 pub returns-in_err-write_new_men : goal.returns-in_err-write_new_men
 returns-in_err-write_new_men g c =
-    gave_up c.from_residual-in_err-write_new_men.ensures.0 (failed_next c.in_ok-write_wanted.ensures.ok (failed_first _ c.in_err-write_new_men.ensures.failed))
+    gave_up c.from_residual-in_err-write_new_men.ensures.0
+    (failed_next c.in_ok-write_wanted.ensures.ok
+    (failed_first _ c.in_err-write_new_men.ensures.failed))
 
 pub returns : goal.returns
 returns g c =
-    wrote_next c.in_ok-write_wanted.ensures.ok (wrote_next c.in_ok-write_new_men.ensures.ok c.write_piece.ensures)
+    wrote_next c.in_ok-write_wanted.ensures.ok
+    (wrote_next c.in_ok-write_new_men.ensures.ok c.write_piece.ensures)
