@@ -63,7 +63,8 @@ class Walks:
         if told["kind"] == HOLD:
             rows, rest = rows_of(lines[1:])
             told["rows"] = self.calls.each_of(lambda row: self.steps(fen, row), rows)
-            told["end"] = self.end(place, rest)
+            # (behind the rows may stand why the opponent has no bound, which is not shown)
+            told["end"] = self.end(place, [] if rest and BOUND.match(rest[0]) else rest)
         return told
 
     def end(self, place, rest):

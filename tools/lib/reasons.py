@@ -1,23 +1,30 @@
 """Why a side has no win, or not even a hold, by any codes, right or wrong: what `why` prints, read from
 docs/users/formats.md."""
 
-from lib.chess import move_text, write_fen
-from lib.game import bound_text, is_failure, is_win
+from lib.chess import move_text, name_of, side_of, write_fen
+from lib.game import bound_text, is_failure, is_win, opponent
 from lib.premises import exit_numbers, line_at
 from lib.rules import value_of
 from lib.walks import end_at, wrong_at
 
 
 def why_text(text, game, side, codes, number, backs):
-    """Status and text of `why` at a number, for a table with this text that leans on the games of `backs`."""
-    said = bound_text(side, codes[number])
-    if is_win(codes[number]):
+    """Status and text of `why` at a number, for a table with this text that leans on the games of `backs`.
+    `codes` has those of both sides."""
+    kept = codes[side]
+    said = bound_text(side, kept[number])
+    if is_win(kept[number]):
         return 0, said
-    if (wrong := wrong_at(game, side, codes, number)) is not None:
+    if (wrong := wrong_at(game, side, kept, number)) is not None:
         return wrong[0], said + wrong[1]
-    if is_failure(codes[number]):
-        return spoiled(text, game, side, codes, number, backs, said)
-    return denied(game, side, codes, number, said)
+    if is_failure(kept[number]):
+        return spoiled(text, game, side, kept, number, backs, said)
+    status, said = denied(game, side, kept, number, said)
+    other = opponent(side)
+    if status or not is_failure(codes[other][number]):
+        return status, said
+    said += bound_text(other, codes[other][number])
+    return spoiled(text, game, other, codes[other], number, backs, said)
 
 
 def spoiled(text, game, side, codes, number, backs, said):
@@ -34,8 +41,34 @@ def spoiled(text, game, side, codes, number, backs, said):
         said += move_text(arm.move) + "\n"
         if arm.number is None:
             by = decider(text, game, arm.end, backs)
-            return 0, said + f"exit {arm.value}\n{write_fen(arm.end)}\n{by}\n"
+            said += f"exit {arm.value}\n{write_fen(arm.end)}\n{by}\n"
+            return 0, said + (repairs(game.positions[number], arm) if by == "no line" else "")
         number = arm.number
+
+
+def repairs(position, arm):
+    """What the text lacks where a move led outside and nothing decides: the victim may be gone, a promoted
+    man there, the man that moved where it went; or a table of the men that are left."""
+    before, left = position.men, arm.end.men
+    origin, destination, promotion = arm.move
+    lines = [f"{side_name(man)} 0-1 {standing(man, square)}" for square, man in before.items()
+             if side_of(man) != position.turn and left.get(square) != man]
+    if promotion:
+        new = " ".join(standing(kind, destination) for kind in "QRBN")
+        lines.append(f"{side_name(before[origin])} {new}")
+    if not lines:
+        lines = [f"{side_name(before[origin])} {standing(before[origin], destination)}"]
+    else:
+        lines.append("a table of " + "".join(sorted(left.values(), key="KQRBNPkqrbnp".index)))
+    return "".join(f"wanted {line}\n" for line in lines)
+
+
+def standing(man, square):
+    return f"{man.upper()}:{name_of(square)}"
+
+
+def side_name(man):
+    return "white" if man.isupper() else "black"
 
 
 def decider(text, game, position, backs):

@@ -1,5 +1,5 @@
 -- What holds of what a table tells at its number of a position.
-use Rattle.std.proofs.Common.{◌≡◌, refl, ap, ◌∙◌, ℕ, List, Bool, true, false, Some, None}
+use Rattle.std.proofs.Common.{sym, ◌≡◌, refl, ap, ◌∙◌, ℕ, List, Bool, true, false, Some, None}
 use Rattle.std.specs.Prelude.{if◌then◌else◌}
 use Rattle.frz_board.specs.Boards.{Board}
 use Rattle.frz_sets.specs.declared.exit.Value.{Value}
@@ -8,6 +8,9 @@ use Rattle.frz_sets.specs.Views.{GroupLine, RuleLines}
 use Rattle.frz_index.specs.Members.{Member, Num}
 use Rattle.frz_index.specs.Membership.{is_member, number_of}
 use Rattle.frz_index.proofs.Lemmas.{member_of, number_missing, number_there, of_member}
+use Rattle.frz_board.specs.declared.man.Colour.{Colour}
+use Rattle.frz_board.specs.declared.man.Colour.TheVariants.{White, Black}
+use Rattle.frz_exits.specs.Values.{class_of}
 use Rattle.frz_game.specs.ExactTables.{is_decided}
 use Rattle.frz_chain.specs.Books.{or_else}
 use Rattle.frz_backs.specs.declared.counts.Counts.{Counts}
@@ -76,3 +79,21 @@ pub still_decided : (counts : Counts) (white black : ℕ) (v : Value) → is_dec
 still_decided counts white black v d =
     holds_with_plies (λ (u : Value). is_decided u ≡ true) counts white black v d (λ e n. refl)
     (λ e n. refl)
+
+white_class : (side : Colour) (n : ℕ) →
+    class_of (WhiteWinsIn n) side ≡ class_of WhiteWins side
+white_class White n = refl
+white_class Black n = refl
+
+black_class : (side : Colour) (n : ℕ) →
+    class_of (BlackWinsIn n) side ≡ class_of BlackWins side
+black_class White n = refl
+black_class Black n = refl
+
+-- nor whom it favours
+pub told_class : (counts : Counts) (white black : ℕ) (v : Value) (side : Colour) →
+    class_of (with_plies counts white black v) side ≡ class_of v side
+told_class counts white black v side =
+    holds_with_plies (λ (u : Value). class_of u side ≡ class_of v side) counts white black v refl
+    (λ e n. white_class side n ∙ ap (λ (u : Value). class_of u side) (sym e))
+    (λ e n. black_class side n ∙ ap (λ (u : Value). class_of u side) (sym e))

@@ -150,7 +150,7 @@ link_exits_true true rules before told own = over_true rules before told own
 link_exits_true false rules before told own = own
 
 -- the counts of more tables
-counted_before : (before : List Back) (back : Back) (side : Colour) →
+pub counted_before : (before : List Back) (back : Back) (side : Colour) →
     count_for side (before ++ (back ∷ [])) ≡ true →
     (count_for side before ≡ true) × (counts_for side back ≡ true)
 counted_before before back side e =

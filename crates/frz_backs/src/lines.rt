@@ -9,12 +9,24 @@ ghost use Rattle.frz_sets.specs.Sound.{IsSound};
 ghost use Rattle.frz_backs.specs.Behind.{ends_lines as is_end};
 ghost use Rattle.frz_backs.specs.FileOn.{loaded_back};
 ghost use Rattle.frz_backs.specs.Lines as words;
+ghost use Rattle.frz_backs.specs.Loaded.{leans_as};
 
 use crate::behind::{end_of, value_of};
 use frz_chain::BackTable;
 use frz_exits::{fitting_line, is_unknown};
 use frz_fide::Bitboards;
 use frz_sets::{Exit, Rules};
+use frz_table::FileKind;
+
+/// Does the table lean on those before it?
+pub fn leans(back: &BackTable) -> bool
+    ensures { result ≡ leans_as back.now.table.kind }
+{
+    match back.table.kind() {
+        FileKind::Atlas => true,
+        _ => false,
+    }
+}
 
 /// Does the set of the table hold the position?
 fn holds(back: &BackTable, q: &Bitboards) -> bool

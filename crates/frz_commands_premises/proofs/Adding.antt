@@ -1,5 +1,5 @@
 -- Lines that are added one by one.
-use Rattle.std.proofs.Common.{◌≡◌, ◌+◌, ◌<◌, ◌++◌, ◌∷◌, ◌∙◌, [], ℕ, zero, suc, List, ap, ap₂, arith, append_assoc, append-nil, get_or, length, refl, sym, take}
+use Rattle.std.proofs.Common.{Bool, true, ◌≡◌, ◌+◌, ◌<◌, ◌++◌, ◌∷◌, ◌∙◌, [], ℕ, zero, suc, List, ap, ap₂, arith, append_assoc, append-nil, get_or, length, refl, sym, take}
 use Rattle.std.specs.Prelude.{map}
 use Rattle.std.proofs.lemmas.List.{length-map, length-take-le, map-append, take_more}
 use Rattle.frz_board.specs.declared.man.Colour.{Colour}
@@ -9,7 +9,7 @@ use Rattle.frz_backs.specs.Books.{Back as BackCodes}
 use Rattle.frz_backs.specs.FileOn.{loaded_back}
 use Rattle.frz_backs.specs.BackTable.{BackTable}
 use Rattle.frz_backs.specs.Links.{Link}
-use Rattle.frz_backs.specs.Loaded.{link_loaded}
+use Rattle.frz_backs.specs.Loaded.{leans_as, link_loaded}
 use Rattle.frz_backs.specs.Values.{atlas_value}
 use Rattle.frz_backs.proofs.Lemmas.{loaded_backs}
 use Rattle.frz_premises.specs.declared.sides.ExitValues.{ExitValues}
@@ -42,7 +42,7 @@ many_lines (n ∷ numbers) (b ∷ bases) same = ap suc (many_lines numbers bases
 
 -- the lines of one table
 abbrev pub table_lines : List Link → TextLink → List Line
-table_lines before t = Back (length before) ∷ text_lines t.text t.link.rules before
+table_lines before t = Back (length before) ∷ text_lines t.link.leans t.text t.link.rules before
 
 -- one table more
 pub table_more : (before : List Link) (tables : List TextLink) (t : TextLink) →
@@ -65,7 +65,7 @@ back_more : (backs : List BackTable) (place : ℕ) (back : BackTable) → place 
     back ≡ get_or backs place back →
     behind_lines [] (map text_link_loaded (take (place + 1) backs))
     ≡ behind_lines [] (map text_link_loaded (take place backs))
-    ++ Back place ∷ text_lines back.table.text back.table.rules
+    ++ Back place ∷ text_lines (leans_as back.table.kind) back.table.text back.table.rules
     (map link_loaded (take place backs))
 back_more backs place back within is =
     let front = take place backs in
@@ -80,24 +80,26 @@ back_more backs place back within is =
     ∙ ap (behind_lines []) (map-append text_link_loaded front (back ∷ []))
     ∙ table_more [] texts (text_link_loaded back)
     ∙ ap (λ (n : ℕ). behind_lines [] texts ++ Back n
-    ∷ text_lines back.table.text back.table.rules (links_in texts)) many
+    ∷ text_lines (leans_as back.table.kind) back.table.text back.table.rules (links_in texts)) many
     ∙ ap (λ (l : List Link). behind_lines [] texts ++ Back place
-    ∷ text_lines back.table.text back.table.rules l) links
+    ∷ text_lines (leans_as back.table.kind) back.table.text back.table.rules l) links
 
 pub behind_more : (backs : List BackTable) (place : ℕ) (back : BackTable)
-    (old lines pushed new : List Line) (text : List ℕ) (rules : RuleLines) → place < length backs →
+    (old lines pushed new : List Line) (leans : Bool) (text : List ℕ) (rules : RuleLines) → place < length backs →
     back ≡ get_or backs place back →
     lines ≡ old ++ behind_lines [] (map text_link_loaded (take place backs)) →
-    pushed ≡ lines ++ Back place ∷ [] → text ≡ back.table.text → rules ≡ back.table.rules →
-    new ≡ pushed ++ text_lines text rules (map link_loaded (take place backs)) →
+    pushed ≡ lines ++ Back place ∷ [] → leans ≡ leans_as back.table.kind → text ≡ back.table.text →
+    rules ≡ back.table.rules → new ≡ pushed ++ text_lines leans text rules (map link_loaded (take place backs)) →
     new ≡ old ++ behind_lines [] (map text_link_loaded (take (place + 1) backs))
-behind_more backs place back old lines pushed new text rules within is so_far push is_text
-    is_rules added =
+behind_more backs place back old lines pushed new leans text rules within is so_far push is_leaning
+    is_text is_rules added =
     let links = map link_loaded (take place backs) in
     let front = behind_lines [] (map text_link_loaded (take place backs)) in
-    let own = text_lines back.table.text back.table.rules links in
+    let own = text_lines (leans_as back.table.kind) back.table.text back.table.rules links in
     added
-    ∙ ap₂ (λ (t : List ℕ) (r : RuleLines). pushed ++ text_lines t r links) is_text is_rules
+    ∙ ap (λ (b : Bool). pushed ++ text_lines b text rules links) is_leaning
+    ∙ ap₂ (λ (t : List ℕ) (r : RuleLines). pushed ++ text_lines (leans_as back.table.kind) t r links)
+    is_text is_rules
     ∙ ap (λ (l : List Line). l ++ own) (push ∙ ap (λ (l : List Line). l ++ Back place ∷ []) so_far)
     ∙ append_assoc (old ++ front) (Back place ∷ []) own
     ∙ append_assoc old front (Back place ∷ own)
@@ -133,14 +135,14 @@ module _ (text : List ℕ) (rules : RuleLines) (backs : List BackTable) (believe
   links = map link_loaded backs
 
   abbrev own : List Line
-  own = text_lines text rules links
+  own = text_lines true text rules links
 
   texts_are : behind ≡ behind_lines [] tables → named ≡ behind ++ Rules ∷ [] →
       texts ≡ named ++ own → texts ≡ basis_lines text rules tables
   texts_are first rule more =
       more ∙ ap (λ (l : List Line). l ++ own) (rule ∙ ap (λ (l : List Line). l ++ Rules ∷ []) first)
       ∙ append_assoc (behind_lines [] tables) (Rules ∷ []) own
-      ∙ ap (λ (ls : List Link). behind_lines [] tables ++ Rules ∷ text_lines text rules ls)
+      ∙ ap (λ (ls : List Link). behind_lines [] tables ++ Rules ∷ text_lines true text rules ls)
       (sym (links_loaded backs))
 
   pub all_told : behind ≡ behind_lines [] tables → named ≡ behind ++ Rules ∷ [] →

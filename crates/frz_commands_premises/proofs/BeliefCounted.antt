@@ -1,5 +1,5 @@
 -- How many of the lines tell of belief: as many as exit lines are believed.
-use Rattle.std.proofs.Common.{◌≡◌, ◌+◌, ◌++◌, ◌∷◌, ◌∙◌, [], ℕ, List, All, ap, ap₂, arith, cond, length, refl, sym, zero-add}
+use Rattle.std.proofs.Common.{Bool, true, ◌≡◌, ◌+◌, ◌++◌, ◌∷◌, ◌∙◌, [], ℕ, List, All, ap, ap₂, arith, cond, length, refl, sym, zero-add}
 use Rattle.std.specs.Prelude.{Ok, count_by}
 use Rattle.std.proofs.lemmas.List.Elements.{All-head, All-tail}
 use Rattle.std.proofs.lemmas.List.Sums.{sum_by-append, sum_by-cons}
@@ -43,41 +43,41 @@ count_by_bases (n ∷ numbers) (b ∷ bases) many =
     (count_by_bases numbers bases (omega arith))
     ∙ sym (sum_by-cons (λ (x : Basis). cond (is_believed x) 1 0) b bases)
 
-count_text : (text : List ℕ) (rules : RuleLines) (links : List Link) →
+count_text : (leans : Bool) (text : List ℕ) (rules : RuleLines) (links : List Link) →
     rules_of text ≡ Ok rules →
-    belief_among (text_lines text rules links) ≡ believed_of rules links
-count_text text rules links read =
-    count_by_bases (exit_numbers_of text) (bases_of rules links)
-    (as_many_lines text rules read ∙ sym (many_bases rules links))
+    belief_among (text_lines leans text rules links) ≡ believed_of leans rules links
+count_text leans text rules links read =
+    count_by_bases (exit_numbers_of text) (bases_of leans rules links)
+    (as_many_lines text rules read ∙ sym (many_bases leans rules links))
 
 pub count_behind : (before : List Link) (tables : List TextLink) → All IsReadAs tables →
     belief_among (behind_lines before tables) ≡ believed_over before (links_in tables)
 unfolding behind_lines believed_over
 count_behind before [] read = refl
 count_behind before (t ∷ tables) read =
-    let lines = text_lines t.text t.link.rules before in
+    let lines = text_lines t.link.leans t.text t.link.rules before in
     count_both (Back (length before) ∷ lines) (behind_lines (before ++ t.link ∷ []) tables)
     ∙ ap₂ (λ (m n : ℕ). m + n)
     (count_first (Back (length before)) lines ∙ zero-add (belief_among lines)
-    ∙ count_text t.text t.link.rules before (All-head IsReadAs t tables read))
+    ∙ count_text t.link.leans t.text t.link.rules before (All-head IsReadAs t tables read))
     (count_behind (before ++ t.link ∷ []) tables (All-tail IsReadAs t tables read))
 
 pub belief_counted : (text : List ℕ) (rules : RuleLines) (tables : List TextLink) →
     rules_of text ≡ Ok rules → All IsReadAs tables →
     belief_among (basis_lines text rules tables)
-    ≡ believed_in (links_in tables) + believed_of rules (links_in tables)
+    ≡ believed_in (links_in tables) + believed_of true rules (links_in tables)
 belief_counted text rules tables read all =
-    let lines = text_lines text rules (links_in tables) in
+    let lines = text_lines true text rules (links_in tables) in
     count_both (behind_lines [] tables) (Rules ∷ lines)
     ∙ ap₂ (λ (m n : ℕ). m + n) (count_behind [] tables all)
     (count_first Rules lines ∙ zero-add (belief_among lines)
-    ∙ count_text text rules (links_in tables) read)
+    ∙ count_text true text rules (links_in tables) read)
 
 -- where none is believed, none is of the tables and none of the rules
 pub none_counted : (text : List ℕ) (rules : RuleLines) (tables : List TextLink) →
     rules_of text ≡ Ok rules → All IsReadAs tables →
     belief_among (basis_lines text rules tables) ≡ 0 →
-    (believed_in (links_in tables) ≡ 0) × (believed_of rules (links_in tables) ≡ 0)
+    (believed_in (links_in tables) ≡ 0) × (believed_of true rules (links_in tables) ≡ 0)
 none_counted text rules tables read all none =
     let sum = belief_counted text rules tables read all in
     (omega (arith, none, sum), omega (arith, none, sum))

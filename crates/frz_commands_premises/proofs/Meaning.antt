@@ -1,5 +1,5 @@
 -- What the answers of `premises` mean.
-use Rattle.std.proofs.Common.{◌≡◌, ◌++◌, ◌∷◌, [], ℕ, List, All, ap, append_assoc, refl, subst, sym}
+use Rattle.std.proofs.Common.{Bool, true, ◌≡◌, ◌++◌, ◌∷◌, [], ℕ, List, All, ap, append_assoc, refl, subst, sym}
 use Rattle.std.specs.Prelude.{Ok, map}
 use Rattle.std.proofs.lemmas.List.Elements.{All-head, All-tail}
 use Rattle.frz_exits.specs.Books.{value_by}
@@ -33,15 +33,15 @@ use Rattle.frz_commands_premises.proofs.ExactTables.{all_read, exact_front, link
 use Rattle.frz_commands_premises.proofs.SideWords.{word_means}
 
 -- of one text
-lines_mean : (text : List ℕ) (rules : RuleLines) (links : List Link) → rules_of text ≡ Ok rules →
-    AreExact links → LinesMean text rules links
-lines_mean text rules links read exact = record {
+lines_mean : (leans : Bool) (text : List ℕ) (rules : RuleLines) (links : List Link) → rules_of text ≡ Ok rules →
+    AreExact links → LinesMean leans text rules links
+lines_mean leans text rules links read exact = record {
   numbered = as_many_lines text rules read;
   said = λ k n e. said_there text rules read k n e;
   not_believed = λ own i line there h q x d.
-      line_true rules (value_by rules) links (all_prove links exact own) i line there h q x d;
-  rests = λ i line there. line_rests rules links i line;
-  believed = λ i line q h. believed_needs_belief rules (value_by rules) links i line q h;
+      line_true leans rules (value_by rules) links (all_prove links exact own) i line there h q x d;
+  rests = λ i line there. line_rests leans rules links i line;
+  believed = λ i line q h. believed_needs_belief leans rules (value_by rules) links i line q h;
 }
 
 -- and of each table's text, with the tables before it
@@ -50,7 +50,7 @@ pub behind_mean : (before : List Link) (tables : List TextLink) → All IsReadAs
 unfolding AllLinesMean
 behind_mean before [] read exact = tt
 behind_mean before (t ∷ tables) read exact = (
-  lines_mean t.text t.link.rules before (All-head IsReadAs t tables read)
+  lines_mean t.link.leans t.text t.link.rules before (All-head IsReadAs t tables read)
       (exact_front [] before (t.link ∷ links_in tables) exact),
   behind_mean (before ++ t.link ∷ []) tables (All-tail IsReadAs t tables read)
       (subst (λ (l : List Link). AreExact l)
@@ -81,9 +81,9 @@ module _ (rules : List ℕ) (behind : List (List ℕ)) (files : Files) (are : Ho
     true_exits none =
         let parts = none_counted h.text h.lines texts h.accepted (all_read h.tables all_judged)
         none in
-        true_over h.lines links links_exact
+        true_over true h.lines links links_exact
         (all_true links links_exact (none_hold links parts.0))
-        (none_holds h.lines links parts.1)
+        (none_holds true h.lines links parts.1)
 
     answer_tells_premises : TellsPremises rules behind files a.text
     answer_tells_premises = record {
@@ -101,7 +101,7 @@ module _ (rules : List ℕ) (behind : List (List ℕ)) (files : Files) (are : Ho
       links_are = refl;
       behind_exact = links_exact;
       behind_mean = behind_mean [] texts (all_read h.tables all_judged) links_exact;
-      rules_mean = lines_mean h.text h.lines links h.accepted links_exact;
+      rules_mean = lines_mean true h.text h.lines links h.accepted links_exact;
       none_believed = true_exits;
       sides = λ side codes table.
           word_means h.lines links side codes believed links_exact true_exits table;

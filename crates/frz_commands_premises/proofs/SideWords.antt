@@ -58,7 +58,7 @@ module _ (rules : RuleLines) (links : List Link) (side : Colour) (codes : List �
       StrengthMeans rules links side codes word
   by_word Believed e = λ behind here.
       true_codes rules value side codes table
-      (true_over rules links tables (all_true links tables behind) here)
+      (true_over true rules links tables (all_true links tables behind) here)
   by_word Renounced e = record {
     renounced = renounced_by (nat_lt 0 believed) (renounces rules side) told side e;
     true_codes = true_codes rules value side codes table (true_unless (λ b.

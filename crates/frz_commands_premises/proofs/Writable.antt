@@ -1,5 +1,5 @@
 -- What the lines tell can be written.
-use Rattle.std.proofs.Common.{◌+◌, ◌≤◌, ◌++◌, ◌∷◌, [], ℕ, List, All, arith, length, refl}
+use Rattle.std.proofs.Common.{Bool, true, ◌+◌, ◌≤◌, ◌++◌, ◌∷◌, [], ℕ, List, All, arith, length, refl}
 use Rattle.std.proofs.lemmas.List.{length-append, length-map}
 use Rattle.std.proofs.lemmas.List.Elements.{All-append, All-cons, All-head, All-nil, All-tail}
 use Rattle.frz_board.specs.declared.man.Colour.TheVariants.{White, Black}
@@ -34,23 +34,23 @@ writable_by n few (m ∷ numbers) (b ∷ bases) all =
     (tellable_more n MOST_BACKS b few (All-head (IsTellable n) b bases all))
     (writable_by n few numbers bases (All-tail (IsTellable n) b bases all))
 
-writable_text : (text : List ℕ) (rules : RuleLines) (links : List Link) →
-    length links ≤ MOST_BACKS → All IsWritable (text_lines text rules links)
-writable_text text rules links few =
-    writable_by (length links) few (exit_numbers_of text) (bases_of rules links)
-    (all_tellable rules links (length links) refl)
+writable_text : (leans : Bool) (text : List ℕ) (rules : RuleLines) (links : List Link) →
+    length links ≤ MOST_BACKS → All IsWritable (text_lines leans text rules links)
+writable_text leans text rules links few =
+    writable_by (length links) few (exit_numbers_of text) (bases_of leans rules links)
+    (all_tellable leans rules links (length links) refl)
 
 pub writable_behind : (before : List Link) (tables : List TextLink) →
     length before + length tables ≤ MOST_BACKS + 1 → All IsWritable (behind_lines before tables)
 unfolding behind_lines
 writable_behind before [] few = All-nil IsWritable
 writable_behind before (t ∷ tables) few =
-    let lines = text_lines t.text t.link.rules before in
+    let lines = text_lines t.link.leans t.text t.link.rules before in
     let longer = length-append before (t.link ∷ []) in
     All-append IsWritable (Back (length before) ∷ lines)
     (behind_lines (before ++ t.link ∷ []) tables)
     (All-cons IsWritable (Back (length before)) lines (omega (arith, few))
-    (writable_text t.text t.link.rules before (omega (arith, few))))
+    (writable_text t.link.leans t.text t.link.rules before (omega (arith, few))))
     (writable_behind (before ++ t.link ∷ []) tables (omega (arith, few, longer)))
 
 writable_last : (rules : RuleLines) (links : List Link) (believed : ℕ) →
@@ -69,11 +69,11 @@ all_writable text rules tables few =
     let link : TextLink → Link = λ t. t.link in
     let many = length-map tables link in
     let links = links_in tables in
-    let texts = text_lines text rules links in
+    let texts = text_lines true text rules links in
     let believed = belief_among (basis_lines text rules tables) in
     All-append IsWritable (basis_lines text rules tables) (last_lines rules links believed)
     (All-append IsWritable (behind_lines [] tables) (Rules ∷ texts)
     (writable_behind [] tables (omega (arith, few)))
     (All-cons IsWritable Rules texts tt
-    (writable_text text rules links (omega (arith, few, many)))))
+    (writable_text true text rules links (omega (arith, few, many)))))
     (writable_last rules links believed)

@@ -1,5 +1,5 @@
 -- The lines that `premises` answers, by the text and the rules of RULES and by the tables behind.
-use Rattle.std.specs.Prelude.{ℕ, Bool, false, List, [], ◌∷◌, ◌++◌, count_by, flat_map, length, map}
+use Rattle.std.specs.Prelude.{ℕ, Bool, true, false, List, [], ◌∷◌, ◌++◌, count_by, flat_map, length, map}
 use Rattle.std.specs.List.{zip}
 use Rattle.frz_board.specs.declared.man.Colour.{Colour}
 use Rattle.frz_board.specs.declared.man.Colour.TheVariants.{White, Black}
@@ -37,22 +37,22 @@ links_in tables = map (λ t. t.link) tables
 abbrev pub lines_by : List ℕ → List Basis → List Line
 lines_by numbers bases = map (λ e. Exit e.0 e.1) (zip numbers bases)
 
--- a line for each exit line of a text, with these tables
-abbrev pub text_lines : List ℕ → RuleLines → List Link → List Line
-text_lines text rules links = lines_by (exit_numbers_of text) (bases_of rules links)
+-- a line for each exit line of a text, with these tables, on which it leans or not
+abbrev pub text_lines : (leans : Bool) → List ℕ → RuleLines → List Link → List Line
+text_lines leans text rules links = lines_by (exit_numbers_of text) (bases_of leans rules links)
 
 -- of each table a line that names it, and a line for each exit line of its text, with the tables
 -- before it
 unfoldable pub behind_lines : List Link → List TextLink → List Line
 behind_lines before [] = []
 behind_lines before (t ∷ more) =
-    Back (length before) ∷ text_lines t.text t.link.rules before
+    Back (length before) ∷ text_lines t.link.leans t.text t.link.rules before
     ++ behind_lines (before ++ t.link ∷ []) more
 
 -- the lines of all texts: of the tables from the left, and of RULES with all of them
 abbrev pub basis_lines : List ℕ → RuleLines → List TextLink → List Line
 basis_lines text rules tables =
-    behind_lines [] tables ++ Rules ∷ text_lines text rules (links_in tables)
+    behind_lines [] tables ++ Rules ∷ text_lines true text rules (links_in tables)
 
 -- how many of the lines tell of an exit line that is believed
 abbrev pub tells_belief : Line → Bool

@@ -1,5 +1,5 @@
 -- What the answers of `premises RULES BACK ..` mean.
-use Rattle.std.specs.Prelude.{◌≡◌, ◌++◌, ℕ, true, false, List, [], ◌∷◌, length, map, slice_get, Some, Ok, ⊤}
+use Rattle.std.specs.Prelude.{◌≡◌, ◌++◌, ℕ, Bool, true, false, List, [], ◌∷◌, length, map, slice_get, Some, Ok, ⊤}
 use Rattle.frz_board.specs.declared.man.Colour.{Colour}
 use Rattle.frz_board.specs.Boards.{Board}
 use Rattle.frz_sets.specs.Views.{ExitLine, RuleLines}
@@ -28,8 +28,9 @@ use Rattle.frz_atlas_prelude.specs.RulesRefusals.{Refuses}
 use Rattle.frz_commands_premises.specs.PremiseLines.{TextLink, basis_lines, belief_among, links_in, premises_text, strength_over, text_link_of}
 use Rattle.frz_commands_premises.specs.SidesMean.{StrengthMeans}
 
--- what is told of the exit lines of a text, with these tables
-pub record LinesMean (text : List ℕ) (rules : RuleLines) (links : List Link) : Type 0 where
+-- what is told of the exit lines of a text, with these tables, on which it leans or not
+pub record LinesMean (leans : Bool) (text : List ℕ) (rules : RuleLines) (links : List Link) : Type 0
+  where
   -- there is a number for each exit line, and the line with this number says what the exit does
   pub numbered : length (exit_numbers_of text) ≡ length rules.exits
   pub said : (k n : ℕ) → slice_get (exit_numbers_of text) k ≡ Some n →
@@ -38,23 +39,23 @@ pub record LinesMean (text : List ℕ) (rules : RuleLines) (links : List Link) :
   -- tables are true
   pub not_believed : AreTrueLines links → (i : ℕ) (line : ExitLine) →
       slice_get rules.exits i ≡ Some line →
-      is_believed (basis_of rules links i line) ≡ false → (q : Board) →
-      IsExit (game_of rules (value_by rules)) q → decides rules.exits i q ≡ true →
+      is_believed (basis_of leans rules links i line) ≡ false → (q : Board) →
+      IsExit (game_of rules (value_by rules)) q → decides leans rules links i q ≡ true →
       IsTrueValue line.value q
   -- what the word that is told of a line says of it, at every exit that it decides
   pub rests : (i : ℕ) (line : ExitLine) → slice_get rules.exits i ≡ Some line →
-      RestsOn rules links i line (basis_of rules links i line)
+      RestsOn leans rules links i line (basis_of leans rules links i line)
   -- the line decides the position that is told of a believed one, which is an exit, and neither the
   -- men there nor a table show what it says
   pub believed : (i : ℕ) (line : ExitLine) (q : Board) →
-      basis_of rules links i line ≡ Believed q →
-      NeedsBelief rules (value_by rules) links i line q
+      basis_of leans rules links i line ≡ Believed q →
+      NeedsBelief leans rules (value_by rules) links i line q
 
 -- so it is of each table's text, with the tables before it
 unfoldable pub AllLinesMean : List Link → List TextLink → Type 0
 AllLinesMean before [] = ⊤
 AllLinesMean before (t ∷ more) =
-    LinesMean t.text t.link.rules before × AllLinesMean (before ++ t.link ∷ []) more
+    LinesMean t.link.leans t.text t.link.rules before × AllLinesMean (before ++ t.link ∷ []) more
 
 -- RULES holds a text that is accepted, the BACKs hold tables that are exact, each over those before
 -- it, and the text tells what their exit lines rest on
@@ -75,7 +76,7 @@ pub record TellsPremises (rules : List ℕ) (behind : List (List ℕ)) (files : 
   pub behind_exact : AreExact links
   -- what is told of each exit line: of the BACKs, each with those before it, and of RULES
   pub behind_mean : AllLinesMean [] texts
-  pub rules_mean : LinesMean rules_text lines links
+  pub rules_mean : LinesMean true rules_text lines links
   -- where the text tells `believed 0`, the exits of RULES over the BACKs are true in chess, with
   -- nothing assumed
   pub none_believed : belief_among (basis_lines rules_text lines texts) ≡ 0 →

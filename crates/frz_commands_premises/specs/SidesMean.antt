@@ -55,7 +55,7 @@ pub record IsTrueUndecided (rules : RuleLines) (value : Board → Value) (side :
 -- what is said of the codes of a side of RULES over these tables
 abbrev pub StrengthMeans : RuleLines → List Link → Colour → List ℕ → Strength → Type 0
 StrengthMeans rules links side codes Believed =
-    BeliefsHold links → BeliefHolds rules links → IsTrueInChess rules side codes
+    BeliefsHold links → BeliefHolds true rules links → IsTrueInChess rules side codes
 StrengthMeans rules links side codes Renounced = IsTrueRenouncing rules side codes
 StrengthMeans rules links side codes Undecided =
     IsTrueUndecided rules (atlas_value rules (backs_of links)) side codes

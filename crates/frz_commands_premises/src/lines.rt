@@ -8,7 +8,7 @@ ghost use Rattle.frz_commands_premises.specs.PremiseLines as words;
 ghost use Rattle.frz_commands_premises.specs.PremiseLines.{behind_lines, belief_among, lines_by, strength_over, text_link_loaded, text_lines};
 
 use crate::line::Line;
-use frz_backs::{AtlasBook, BackTable};
+use frz_backs::{AtlasBook, BackTable, leans};
 use frz_board::Colour;
 use frz_exit_lines::exit_line_numbers;
 use frz_game::Game;
@@ -32,10 +32,11 @@ fn add_lines(lines: &mut Vec<Line>, numbers: &[u32], bases: &[Basis]) -> Result<
 }
 
 /// Adds a line for each exit line of a text, which gives these rules and this set, with these
-/// tables.
+/// tables, on which it leans or not.
 fn add_text<L: Ledger>(
     alloc: Global,
     lines: &mut Vec<Line>,
+    leans: bool,
     text: &[u8],
     rules: &Rules,
     set: &Set,
@@ -45,12 +46,12 @@ fn add_text<L: Ledger>(
     requires read { rules_of text.now ≡ Ok rules.now }
     requires fits { set.now ≡ rules.now.groups }
     ensures added { OnOk result (lines.new.items ≡ lines.old.items
-        ++ text_lines text.now rules.now (map link_loaded backs.now)) }
+        ++ text_lines leans text.now rules.now (map link_loaded backs.now)) }
     ensures steps { steps.new ≤ steps.old + size_of rules.now.groups }
     ensures later { steps.old ≤ steps.new }
 {
     let numbers = exit_line_numbers(alloc, text)?;
-    let bases = premises_of(alloc, set, rules, backs, steps)?;
+    let bases = premises_of(alloc, set, rules, leans, backs, steps)?;
     add_lines(lines, &numbers, &bases)
 }
 
@@ -73,6 +74,7 @@ fn add_behind<L: Ledger>(
         add_text(
             alloc,
             lines,
+            leans(back),
             table.text(),
             table.rules(),
             table.set(),
@@ -173,7 +175,16 @@ pub fn premise_lines<L: Ledger>(
     let mut lines = Vec::new(alloc);
     add_behind(alloc, &mut lines, backs, steps)?;
     lines.push(Line::Rules)?;
-    add_text(alloc, &mut lines, &read.text, rules, set, backs, steps)?;
+    add_text(
+        alloc,
+        &mut lines,
+        true,
+        &read.text,
+        rules,
+        set,
+        backs,
+        steps,
+    )?;
     let believed = count_beliefs(&lines);
     lines.push(Line::Believed(believed))?;
     add_sides(&mut lines, rules, set, backs, believed, steps)?;

@@ -4,13 +4,12 @@ use Rattle.std.proofs.lemmas.List.{length-append}
 use Rattle.std.proofs.lemmas.List.Elements.{All-cons, All-head, All-nil, All-tail}
 use Rattle.std.specs.Prelude.{Bool, true, false}
 use Rattle.frz_board.specs.Boards.{Board}
-use Rattle.frz_exits.specs.Books.{value_by}
 use Rattle.frz_game.specs.Values.{AreTrueExits}
 use Rattle.frz_sets.specs.Views.{RuleLines}
 use Rattle.frz_backs.specs.Books.{Back}
 use Rattle.frz_backs.specs.FileOn.{IsExactBack}
-use Rattle.frz_backs.specs.Links.{AreExact, AreExactOver, AreTrueLines, Link, backs_of, value_over}
-use Rattle.frz_backs.proofs.Lemmas.{exits_over_true}
+use Rattle.frz_backs.specs.Links.{AreExact, AreExactOver, AreTrueLines, AreTrueLinesOver, Link, backs_of, own_over, value_over}
+use Rattle.frz_backs.proofs.Lemmas.{link_exits_true, tables_true}
 use Rattle.frz_commands_premises.proofs.Lemmas.{exact_front}
 
 module _ {X : Type 0} where
@@ -76,11 +75,23 @@ last_exact backs (link ∷ links) own h =
     (append_assoc backs (link.back ∷ []) (backs_of links))
     (last_exact (backs ++ (link.back ∷ [])) links own h.1)
 
-by_leans : (leans : Bool) (rules : RuleLines) (links : List Link) → AreExact links
-    → AreTrueLines links → AreTrueExits rules (value_by rules)
-    → AreTrueExits rules (value_over leans rules (backs_of links))
-by_leans true rules links exact lines own = exits_over_true rules links exact lines own
-by_leans false rules links exact lines own = own
+-- and its lines are true where it leans
+last_lines : (backs : List Back) (links : List Link) (own : Link)
+    → AreTrueLinesOver backs (links ++ own ∷ [])
+    → AreTrueLinesOver backs links
+    × AreTrueExits own.rules (own_over own.leans own.rules (backs ++ backs_of links))
+unfolding AreTrueLinesOver
+last_lines backs [] own h = (
+  tt,
+  subst (λ (l : List Back). AreTrueExits own.rules (own_over own.leans own.rules l))
+      (sym (append-nil backs)) h.0,
+)
+last_lines backs (link ∷ links) own h =
+    let rest = last_lines (backs ++ (link.back ∷ [])) links own h.1 in (
+      (h.0, rest.0),
+      subst (λ (l : List Back). AreTrueExits own.rules (own_over own.leans own.rules l))
+          (append_assoc backs (link.back ∷ []) (backs_of links)) rest.1,
+    )
 
 module _ (before : List Link) (own : Link) (exact : AreExact (before ++ own ∷ [])) where
   pub exact_over_others :
@@ -91,6 +102,6 @@ module _ (before : List Link) (own : Link) (exact : AreExact (before ++ own ∷ 
   pub exits_are_true : AreTrueLines (before ++ own ∷ [])
       → AreTrueExits own.rules (value_over own.leans own.rules (backs_of before))
   exits_are_true lines =
-      let True : Link → Type 0 = λ link. AreTrueExits link.rules (value_by link.rules) in
-      by_leans own.leans own.rules before (exact_front [] before (own ∷ []) exact)
-      (all_front True before (own ∷ []) lines) (all_last True before own lines)
+      let parts = last_lines [] before own lines in
+      link_exits_true own.leans own.rules (backs_of before)
+      (tables_true before (exact_front [] before (own ∷ []) exact) parts.0) parts.1

@@ -44,7 +44,7 @@ module _ (before : List TableBytes) (own : TableBytes) (judged : AreJudged (befo
   texts = map text_link_of tables
 
   abbrev verdict : Verdict
-  verdict = verdict_at (link_of own) p
+  verdict = verdict_at (links_in texts) (link_of own) p
 
   links_exact : AreExact (links_in texts)
   links_exact = subst (λ (l : List Link). AreExact l) (sym (links_are tables))
@@ -58,9 +58,10 @@ module _ (before : List TableBytes) (own : TableBytes) (judged : AreJudged (befo
       let exact = subst (λ (l : List Link). AreExact l) links_split links_exact in
       let behold = subst (λ (l : List Link). BeliefsHold l) links_split holds in
       let links = map link_of before in
-      verdict_is_true links (link_of own) (exact_over_others links (link_of own) exact)
+      subst (λ (l : List Link). IsTrueVerdict (verdict_at l (link_of own) p) p) (sym links_split)
+      (verdict_is_true links (link_of own) (exact_over_others links (link_of own) exact)
       (exits_are_true links (link_of own) exact
-      (all_true (links ++ link_of own ∷ []) exact behold)) p member
+      (all_true (links ++ link_of own ∷ []) exact behold)) p member)
 
   true_if_none : belief_among (behind_lines [] texts) ≡ 0 → IsTrueVerdict verdict p
   true_if_none none =
@@ -100,7 +101,7 @@ module _ (table : List ℕ) (behind : List (List ℕ)) (p : Board) (files : File
 
     by_member : (b : Bool) → is_member h.own.contents.rules.groups p ≡ b
         → a ≡ (if b
-        then says Success (verdict_text p (verdict_at (link_of h.own) p)
+        then says Success (verdict_text p (verdict_at (links_in (map text_link_of all_tables)) (link_of h.own) p)
         (length behind) (behind_lines [] (map text_link_of all_tables))) files
         else says (status_of Outside) (refusal_line Outside) files)
         → MeansVerdict table behind p files a
@@ -114,7 +115,7 @@ module _ (table : List ℕ) (behind : List (List ℕ)) (p : Board) (files : File
           inside = member;
           texts = map text_link_of all_tables;
           texts_are = refl;
-          verdict = verdict_at (link_of h.own) p;
+          verdict = verdict_at (links_in (map text_link_of all_tables)) (link_of h.own) p;
           told = ap (λ (x : Answer). x.text) e;
           means = this_means h.before h.own judged p member;
         })

@@ -96,7 +96,8 @@ module _ (table : List ℕ) (behind : List (List ℕ)) (p : Board) (m : Files) w
           told = refl;
         });
         text = member_said (is_member own.contents.rules.groups p) p
-            (verdict_at (link_of own) p) (length behind)
+            (verdict_at (links_in (map text_link_of (before ++ own ∷ []))) (link_of own) p)
+            (length behind)
             (behind_lines [] (map text_link_of (before ++ own ∷ []))) m;
       }
 

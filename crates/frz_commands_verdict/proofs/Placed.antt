@@ -38,11 +38,14 @@ missing_there set groups p why same placed = by_test (is_member groups p) refl
         absurd (here.0 (member_of groups p e))
 
 -- the verdict by the codes at the number is that on the position
-pub verdict_there : (own : BackTable) (number : ℕ) (p : Board) (verdict : Verdict)
+pub verdict_there : (tables : List Link) (own : BackTable) (counts : Counts) (number : ℕ)
+    (p : Board) (verdict : Verdict) → counts ≡ counts_through tables (link_loaded own)
     → number ≡ Num own.table.rules.groups p
     → verdict ≡ verdict_by (slice_index own.white.items number) (slice_index own.black.items number)
-    (counts_wins (link_loaded own) White) (counts_wins (link_loaded own) Black)
-    → verdict ≡ verdict_at (link_loaded own) p
-verdict_there own number p verdict is e =
+    counts.white counts.black
+    → verdict ≡ verdict_at tables (link_loaded own) p
+verdict_there tables own counts number p verdict same is e =
     e ∙ ap (λ (n : ℕ). verdict_by (slice_index own.white.items n) (slice_index own.black.items n)
-    (counts_wins (link_loaded own) White) (counts_wins (link_loaded own) Black)) is
+    counts.white counts.black) is
+    ∙ ap (λ (c : Counts). verdict_by (code_at (link_loaded own) White p)
+    (code_at (link_loaded own) Black p) c.white c.black) same

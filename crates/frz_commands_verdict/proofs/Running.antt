@@ -86,7 +86,7 @@ module _ (table : List ℕ) (behind : List (List ℕ)) (apart : has_twice (table
     h = names_hold old.files table behind apart (all_held tables) f.may_all
 
     abbrev verdict_there : Verdict
-    verdict_there = verdict_at (link_of f.own) p
+    verdict_there = verdict_at (links_in (map text_link_of tables)) (link_of f.own) p
 
     ends_with : (b : Bool) → is_member f.own.contents.rules.groups p ≡ b
         → Said (by_member b p verdict_there (length behind)

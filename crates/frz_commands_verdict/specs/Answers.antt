@@ -17,7 +17,7 @@ use Rattle.frz_atlas.specs.declared.fault.BackFault.{BackFault}
 use Rattle.frz_atlas.specs.declared.fault.BackFault.TheVariants.{Refused, Wrong}
 use Rattle.frz_atlas_prelude.specs.BackLines.{back_line, back_status}
 use Rattle.frz_atlas_prelude.specs.Tables.{AreTablesIn}
-use Rattle.frz_commands_premises.specs.PremiseLines.{TextLink, behind_lines, text_link_of}
+use Rattle.frz_commands_premises.specs.PremiseLines.{TextLink, behind_lines, links_in, text_link_of}
 use Rattle.frz_commands_verdict.specs.Finding.{names_over}
 use Rattle.frz_commands_verdict.specs.Texts.{verdict_text}
 use Rattle.frz_commands_verdict.specs.Verdicts.{verdict_at}
@@ -43,7 +43,7 @@ abbrev pub answer_over : (table : Link) → List TextLink → (own : ℕ) → Bo
 answer_over table texts own p files =
     if is_member table.rules.groups p
     then says Success
-    (verdict_text p (verdict_at table p) own (behind_lines [] texts)) files
+    (verdict_text p (verdict_at (links_in texts) table p) own (behind_lines [] texts)) files
     else says (status_of Outside) (refusal_line Outside) files
 
 -- all tables are exact, each over those before it

@@ -9,7 +9,7 @@ use Rattle.frz_atlas.specs.Costs.{bytes_of, calls_of, steps_of}
 use Rattle.frz_atlas.specs.Held.{MayHoldAll, all_held}
 use Rattle.frz_atlas.specs.Opening.{IsOneRefused}
 use Rattle.frz_atlas.specs.declared.fault.AtlasFault.{AtlasFault}
-use Rattle.frz_commands_premises.specs.PremiseLines.{TextLink, behind_lines, text_link_of}
+use Rattle.frz_commands_premises.specs.PremiseLines.{TextLink, behind_lines, links_in, text_link_of}
 use Rattle.frz_commands_verdict.specs.declared.finding.Told.{Told}
 use Rattle.frz_commands_verdict.specs.Verdicts.{verdict_at}
 
@@ -31,7 +31,7 @@ abbrev pub IsTold : (own : Link) → List TextLink → Board → Option Told →
 IsTold own texts p None = is_member own.rules.groups p ≡ false
 IsTold own texts p (Some told) =
     (is_member own.rules.groups p ≡ true)
-    × (told.verdict ≡ verdict_at own p)
+    × (told.verdict ≡ verdict_at (links_in texts) own p)
     × (told.lines.items ≡ behind_lines [] texts)
 
 -- the names may hold tables that are exact, each over those before it, and this is told of the

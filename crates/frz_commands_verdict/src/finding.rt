@@ -10,16 +10,15 @@ ghost use Rattle.frz_backs.specs.BackTable.{BackTable as Loaded};
 ghost use Rattle.frz_backs.specs.Loaded.{link_loaded};
 ghost use Rattle.frz_atlas.specs.Causes.{HasAtlasCause};
 ghost use Rattle.frz_commands_premises.specs.PremiseLines.{text_link_loaded};
-ghost use Rattle.frz_commands_verdict.specs.Verdicts.{verdict_at};
+ghost use Rattle.frz_commands_verdict.specs.Verdicts as words;
 ghost use Rattle.frz_commands_verdict.specs.Finding.{FindsVerdict, IsTold, RefusesOne};
 
 use crate::verdict::{Verdict, verdict_by};
 use frz_atlas::{AtlasFault, open_all};
-use frz_backs::BackTable;
+use frz_backs::{BackTable, Counts, leans, lines_count};
 use frz_board::{Colour, Position};
 use frz_commands_premises::{Line, lines_behind};
 use frz_prelude::number_in;
-use frz_premises::counts_wins;
 use frz_steps::Steps;
 use frz_store::Store;
 use std::alloc::{AllocError, Global};
@@ -33,19 +32,29 @@ pub struct Told {
     pub lines: Vec<Line>,
 }
 
-/// The verdict on the position that has this number in the table's set.
-fn verdict_of(own: &BackTable, number: u32) -> Verdict
+/// Whose wins in `own`, the last of the tables, give their plies to the mate?
+fn counts_through(tables: &[BackTable], own: &BackTable) -> Counts
+    ensures { result ≡ words.counts_through (map link_loaded tables.now) (link_loaded own.now) }
+{
+    if leans(own) {
+        return Counts::of(tables);
+    }
+    let lines = &own.table.rules().exits;
+    Counts {
+        white: lines_count(Colour::White, lines),
+        black: lines_count(Colour::Black, lines),
+    }
+}
+
+/// The verdict on the position that has this number in the set of `own`, the last of the tables.
+fn verdict_of(tables: &[BackTable], own: &BackTable, number: u32) -> Verdict
     requires { number < size_of own.now.table.rules.groups }
     ensures { (p : Board) → number ≡ Num own.now.table.rules.groups p →
-        result ≡ verdict_at (link_loaded own.now) p }
+        result ≡ words.verdict_at (map link_loaded tables.now) (link_loaded own.now) p }
 {
     let i = number as usize;
-    verdict_by(
-        own.white[i],
-        own.black[i],
-        counts_wins(own, Colour::White),
-        counts_wins(own, Colour::Black),
-    )
+    let counts = counts_through(tables, own);
+    verdict_by(own.white[i], own.black[i], counts.white, counts.black)
 }
 
 /// What is told of the position by the last of the tables, `own`; `None` where the position is not in
@@ -69,7 +78,7 @@ fn tell_by<L: Ledger>(
         Err(_) => return Ok(None),
     };
     let lines = lines_behind(alloc, tables, steps)?;
-    let verdict = verdict_of(own, number);
+    let verdict = verdict_of(tables, own, number);
     Ok(Some(Told { verdict, lines }))
 }
 

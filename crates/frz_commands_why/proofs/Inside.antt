@@ -2,6 +2,7 @@
 use Rattle.std.proofs.Common.{◌≡◌, ◌⊎◌, ℕ, ◌≤◌, ◌<◌, ◌^◌, ◌+◌, List, Bool, Option, Some, None, Ok, Err, length, refl, sym, subst, slice_index, arith}
 use Rattle.std.specs.Prelude.{IsSome, MatchBool, if◌then◌else◌}
 use Rattle.frz_board.specs.Boards.{Board}
+use Rattle.frz_board.specs.Men.{other_of}
 use Rattle.frz_board.specs.declared.man.Colour.{Colour}
 use Rattle.frz_fide.specs.Listing.{legal_moves_of}
 use Rattle.frz_sets.specs.Views.{GroupLine, RuleLines}
@@ -70,10 +71,12 @@ module _ (own : BackTable) (backs : List BackTable) (side : Colour) (p : Board) 
   pub steps_inside : (number before now : ℕ) → number ≡ Num own.table.rules.groups p →
       Member own.table.rules.groups p →
       now ≤ before + telling_steps (slice_index (codes_loaded own side) number)
-      (length (legal_moves_of p)) → now ≤ before + stepping_in own side p
+      (slice_index (codes_loaded own (other_of side)) number) (length (legal_moves_of p)) →
+      now ≤ before + stepping_in own side p
   steps_inside number before now is member few =
       subst (λ (b : Bool). now ≤ before + (if b
       then telling_steps (slice_index (codes_loaded own side) (Num own.table.rules.groups p))
+      (slice_index (codes_loaded own (other_of side)) (Num own.table.rules.groups p))
       (length (legal_moves_of p)) else 0)) (sym (of_member own.table.rules.groups p member))
       (subst (λ (n : ℕ). now ≤ before + telling_steps (slice_index (codes_loaded own side) n)
-      (length (legal_moves_of p))) is few)
+      (slice_index (codes_loaded own (other_of side)) n) (length (legal_moves_of p))) is few)

@@ -41,7 +41,7 @@ module _ (alone : WayAlone) (side : Colour) (p : Board) (files : Files) (a b : A
   one_inside contents bytes tables true h k =
       let code = code_at contents bytes side p in
       let same = told_once contents.rules (value_behind contents bytes tables) side
-      (kept_codes contents bytes side) (decider_behind contents bytes tables)
+      (kept_codes contents bytes) (decider_behind contents bytes tables)
       (Num contents.rules.groups p) alone k.text h.text k.wrong h.wrong k.told h.told in
       k.is
       ∙ ap (λ (t : List ℕ). says (status_by k.wrong) (why_text side code t k.wrong) files) same.0

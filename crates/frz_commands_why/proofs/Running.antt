@@ -3,6 +3,7 @@ use Rattle.std.proofs.Common.{◌≡◌, ◌⊎◌, refl, sym, ap, subst, ◌∙
 use Rattle.std.specs.Prelude.{map, MatchBool, if◌then◌else◌}
 use Rattle.std.specs.Option.{unwrap_or}
 use Rattle.frz_board.specs.Boards.{Board}
+use Rattle.frz_board.specs.Men.{other_of}
 use Rattle.frz_board.specs.declared.man.Colour.{Colour}
 use Rattle.frz_board.specs.declared.man.Colour.TheVariants.{White, Black}
 use Rattle.frz_fide.specs.Listing.{legal_moves_of}
@@ -92,7 +93,7 @@ module _ (there : WayThere) (side : Colour) (p : Board) (files : Files) where
           (IsWhyAnswer contents bytes tables side p files a) (a ≡ outside_answer files))
       by_member true =
           let tale = told_there contents.rules (value_behind contents bytes tables) side
-          (kept_codes contents bytes side) (decider_behind contents bytes tables)
+          (kept_codes contents bytes) (decider_behind contents bytes tables)
           (Num contents.rules.groups p) there in
           record {
             a = says (status_by tale.wrong)
@@ -190,9 +191,10 @@ module _ (there : WayThere) (table : List ℕ) (behind : List (List ℕ))
     same_backs : map loaded_back backs ≡ backs_in l.tables
     same_backs = sym (loaded_backs backs) ∙ kept_backs (map link_loaded backs) l.tables l.all_keep
 
-    same_codes : codes_loaded given side ≡ kept_codes contents l.bytes side
+    same_codes : codes_loaded given ≡ kept_codes contents l.bytes
     same_codes =
-        ap (λ (k : Link). of_side side k.back.white k.back.black) l.keeps ∙ by_side side
+        ap (λ (k : Link). λ (s : Colour). of_side s k.back.white k.back.black) l.keeps
+        ∙ (λ i s. by_side s i)
       where
         by_side : (s : Colour)
             → of_side s (kept_codes contents l.bytes White) (kept_codes contents l.bytes Black)
@@ -204,25 +206,27 @@ module _ (there : WayThere) (table : List ℕ) (behind : List (List ℕ))
     by_files : (number : ℕ) (end : End) (after : SinkTold)
         → EndsLoaded given backs side number end out after
         → EndsWhy contents.rules (value_behind contents l.bytes l.tables) side
-        (kept_codes contents l.bytes side) (decider_behind contents l.bytes l.tables) number end out
+        (kept_codes contents l.bytes) (decider_behind contents l.bytes l.tables) number end out
         after
     by_files number end after ends =
-        subst (λ (c : List ℕ). EndsWhy contents.rules (value_behind contents l.bytes l.tables) side c
+        subst (λ (c : Colour → List ℕ). EndsWhy contents.rules
+        (value_behind contents l.bytes l.tables) side c
         (decider_behind contents l.bytes l.tables) number end out after) same_codes
         (subst (λ (b : List Back). EndsWhy contents.rules
-        (value_over (leans l.bytes) contents.rules b) side (codes_loaded given side)
+        (value_over (leans l.bytes) contents.rules b) side (codes_loaded given)
         (decider_of (exit_numbers_of contents.text) contents.rules
         (leaning_on (leans l.bytes) b)) number end out after) same_backs
         (subst (λ (t : Bool). EndsWhy contents.rules
-        (value_over t contents.rules (map loaded_back backs)) side (codes_loaded given side)
+        (value_over t contents.rules (map loaded_back backs)) side (codes_loaded given)
         (decider_of (exit_numbers_of contents.text) contents.rules
         (leaning_on t (map loaded_back backs))) number end out after) leans_as_its_bytes ends))
 
     same_steps : now ≤ before + steps_by (opened_own (Some l.bytes)) l.bytes side p
     same_steps =
         subst (λ (n : ℕ). now ≤ before + n)
-        (ap (λ (c : List ℕ). if is_member contents.rules.groups p
-        then telling_steps (slice_index c (Num contents.rules.groups p))
+        (ap (λ (c : Colour → List ℕ). if is_member contents.rules.groups p
+        then telling_steps (slice_index (c side) (Num contents.rules.groups p))
+        (slice_index (c (other_of side)) (Num contents.rules.groups p))
         (length (legal_moves_of p)) else 0) same_codes
         ∙ sym (ap (λ (x : Result Contents TableFault). steps_by x l.bytes side p) l.opens)) steps
 

@@ -5,8 +5,9 @@ use Rattle.std.specs.Result.{IsErr}
 use Rattle.std.proofs.lemmas.Bool.Decides.{nat_tests}
 use Rattle.frz_board.specs.declared.man.Colour.{Colour}
 use Rattle.frz_board.specs.Boards.{Board}
+use Rattle.frz_board.specs.Men.{other_of}
 use Rattle.frz_board.specs.Moving.{Step}
-use Rattle.frz_fide.specs.Legal.{is_legal}
+use Rattle.frz_fide.specs.Legal.{after, is_legal}
 use Rattle.frz_fide.proofs.Lemmas.{only_legal}
 use Rattle.frz_sets.specs.declared.exit.Value.{Value}
 use Rattle.frz_sets.specs.Sets.{size_of}
@@ -33,8 +34,8 @@ use Rattle.frz_reasons.specs.ReasonTexts.{denials_text, moves_text}
 use Rattle.frz_reasons.specs.TellingDenials.{TellsDenials}
 use Rattle.frz_reasons.specs.TellingFailures.{TellsFailure}
 use Rattle.frz_commands_why.specs.declared.decider.Decider.{Decider}
-use Rattle.frz_commands_why.specs.Telling.{EndsWhy, TellsBehind, TellsWhy, ToldAt, fails, holds, neither, wins}
-use Rattle.frz_commands_why.specs.Texts.{LeavesLegally, end_text, status_by, wrong_in, wrong_text}
+use Rattle.frz_commands_why.specs.Telling.{EndsWhy, TellsBehind, TellsSo, TellsWhy, ToldAt, ToldFailure, ToldOpponent, fails, has_bound, has_none, holds, met_wrong, neither, on_way, wins}
+use Rattle.frz_commands_why.specs.Texts.{LeavesLegally, end_text, exit_lines, exit_text, lack_text, status_by, wrong_in, wrong_text}
 
 -- a code that is neither 0, nor that of a hold or of a win, is that of a failure
 pub left_failing : (c : ℕ) → is_win c ≡ false → c ≢ 1 → c ≢ 0 → is_failure c ≡ true
@@ -43,8 +44,8 @@ left_failing c win one zero = grind (arith, nat_tests)
 -- what holds of each failure of the sink holds of a result that is one
 pub as_failed : {T : Type 0} (P : Result T Failed → Type 0) (result : Result T Failed) →
     IsErr result → ((e : Failed) → P (Err e)) → P result
-as_failed P (Ok x) none h = absurd (cc)
-as_failed P (Err e) none h = h e
+as_failed P (Ok x) is h = absurd (cc)
+as_failed P (Err e) is h = h e
 
 -- a number of a position is one of the set
 pub number_below : (groups : List GroupLine) (number : ℕ) → IsSome (position_at groups number) →
@@ -68,6 +69,20 @@ leaves_legally rules value side q (Left number m v) ends =
     subst (λ (o : Option Board). IfSome o (λ p. is_legal p m ≡ true)) (sym ends.at)
     (only_legal ends.from m ends.legal).1
 
+-- the exit by a move from the position was written
+pub left_wrote : (decider : Board → Decider) (value : Value) (p : Board) (m : Step) (q here : Board)
+    (d : Decider) → q ≡ after p m → here ≡ q → d ≡ decider q → (result : Result (Unit {0}) Failed)
+    (old new : SinkTold) →
+    WroteText (exit_lines value here d ++ lack_text d p m) result old new →
+    WroteText (exit_text decider value m (Some p)) result old new
+left_wrote decider value p m q here d led same is result old new wrote =
+    subst (λ (x : Board). WroteText (exit_lines value x (decider x) ++ lack_text (decider x) p m)
+    result old new) led
+    (subst (λ (x : Board). WroteText (exit_lines value x (decider q) ++ lack_text (decider q) p m)
+    result old new) same
+    (subst (λ (y : Decider). WroteText (exit_lines value here y ++ lack_text y p m) result old new)
+    is wrote))
+
 -- that the reason at the end of a way is true of the position behind it
 abbrev pub WayEnds : Type 0
 WayEnds = (rules : RuleLines) (value : Board → Value) (side : Colour) (codes : List ℕ)
@@ -82,55 +97,125 @@ pub told_legally : WayEnds → (rules : RuleLines) (value : Board → Value) (si
     (reason : Reason) (old mid : SinkTold) →
     TellsFailure (graph_by rules value) side codes number (Ok reason) old mid →
     LeavesLegally rules.groups reason
-told_legally ends rules value side codes number some reason old mid way =
+told_legally ends rules value side codes number some reason old mid h =
     by_some (position_at rules.groups number) refl some
   where
     by_some : (o : Option Board) → position_at rules.groups number ≡ o → IsSome o →
         LeavesLegally rules.groups reason
     by_some None at is = absurd (cc)
     by_some (Some p) at is =
-        subst (λ (r : Reason). LeavesLegally rules.groups r) (sym way.answers)
-        (leaves_legally rules value side (position_behind p way.arms) way.reason
-        (ends rules value side codes number way.arms way.reason p at way.way))
+        subst (λ (r : Reason). LeavesLegally rules.groups r) (sym h.answers)
+        (leaves_legally rules value side (position_behind p h.arms) h.reason
+        (ends rules value side codes number h.arms h.reason p at h.way))
 
+-- a text of which P holds, with a wrong entry or none
+pub record Tale (P : List ℕ → Option WrongEntry → Type 0) : Type 0 where
+  pub text : List ℕ
+  pub wrong : Option WrongEntry
+  pub told : P text wrong
+
+-- by the codes of one side
 module _ (rules : RuleLines) (value : Board → Value) (side : Colour) (codes : List ℕ)
     (decider : Board → Decider) (number : ℕ) where
-  abbrev Behind : Result (Option WrongEntry) Failed → SinkTold → SinkTold → Type 0
-  Behind = TellsBehind rules value side codes decider number
+  abbrev Fails : Result (Option WrongEntry) Failed → SinkTold → SinkTold → Type 0
+  Fails = TellsSo (ToldFailure rules value side codes decider number)
+
+  abbrev Opposes : Result (Option WrongEntry) Failed → SinkTold → SinkTold → Type 0
+  Opposes = TellsSo (ToldOpponent rules value side codes decider number None)
+
+  abbrev own_line : List ℕ
+  own_line = kept_line side (slice_index codes number)
 
   -- the way was written, and then its end
-  pub failure_told : is_failure (slice_index codes number) ≡ true → (reason : Reason)
+  pub failure_told : (reason : Reason)
       (result : Result (Option WrongEntry) Failed) (old mid new : SinkTold) →
       TellsFailure (graph_by rules value) side codes number (Ok reason) old mid →
       WroteText (end_text rules.groups decider reason) result mid new →
-      IfOk result (λ w. w ≡ wrong_in reason) → Behind result old new
-  failure_told failing reason result old mid new way wrote answers = record {
-    text = moves_text way.arms ++ end_text rules.groups decider reason;
+      IfOk result (λ w. w ≡ wrong_in reason) → Fails result old new
+  failure_told reason result old mid new h wrote answers = record {
+    text = moves_text h.arms ++ end_text rules.groups decider reason;
     wrong = wrong_in reason;
-    told = fails failing way.arms reason
-        (subst (λ r. FailsFrom (graph_by rules value) side codes number way.arms r)
-        (sym way.answers) way.way);
-    wrote = wrote_next way.wrote.ok wrote;
+    told = on_way h.arms reason
+        (subst (λ r. FailsFrom (graph_by rules value) side codes number h.arms r)
+        (sym h.answers) h.way);
+    wrote = wrote_next h.wrote.ok wrote;
     answers = answers;
   }
 
   -- the sink failed within the way
-  pub failure_failed : is_failure (slice_index codes number) ≡ true → (e d : Failed)
-      (old new : SinkTold) →
+  pub failure_failed : (e d : Failed) (old new : SinkTold) →
       TellsFailure (graph_by rules value) side codes number (Err e) old new →
-      Behind (Err d) old new
-  failure_failed failing e d old new way = record {
-    text = moves_text way.arms ++ end_text rules.groups decider way.reason;
-    wrong = wrong_in way.reason;
-    told = fails failing way.arms way.reason way.way;
+      Fails (Err d) old new
+  failure_failed e d old new h = record {
+    text = moves_text h.arms ++ end_text rules.groups decider h.reason;
+    wrong = wrong_in h.reason;
+    told = on_way h.arms h.reason h.way;
     wrote = record {
       ok = tt;
-      failed = failed_first (end_text rules.groups decider way.reason) way.wrote.failed;
+      failed = failed_first (end_text rules.groups decider h.reason) h.wrote.failed;
     };
     answers = tt;
   }
 
-  pub win_told : is_win (slice_index codes number) ≡ true → (out : SinkTold) →
+  -- an opponent with a bound
+  pub opponent_bound : is_failure (slice_index codes number) ≡ false → (out : SinkTold) →
+      Opposes (Ok None) out out
+  opponent_bound stays out = record {
+    text = [];
+    wrong = None;
+    told = has_bound stays;
+    wrote = record { ok = took_nothing out; failed = tt };
+    answers = refl;
+  }
+
+  -- the line of an opponent that has none, and his way
+  pub opponent_told : is_failure (slice_index codes number) ≡ true →
+      (result : Result (Option WrongEntry) Failed) (old mid new : SinkTold) →
+      TookText own_line old mid → Fails result mid new → Opposes result old new
+  opponent_told failing result old mid new line h = record {
+    text = own_line ++ h.text;
+    wrong = h.wrong;
+    told = has_none failing h.text h.wrong h.told;
+    wrote = wrote_next line h.wrote;
+    answers = h.answers;
+  }
+
+  -- the sink failed within that line
+  pub opponent_failed : is_failure (slice_index codes number) ≡ true →
+      Tale (ToldFailure rules value side codes decider number) → (d : Failed)
+      (old new : SinkTold) → FailedWithin own_line old new → Opposes (Err d) old new
+  opponent_failed failing tale d old new failed = record {
+    text = own_line ++ tale.text;
+    wrong = tale.wrong;
+    told = has_none failing tale.text tale.wrong tale.told;
+    wrote = record { ok = tt; failed = failed_first tale.text failed };
+    answers = tt;
+  }
+
+-- by the codes of both
+module _ (rules : RuleLines) (value : Board → Value) (side : Colour) (kept : Colour → List ℕ)
+    (decider : Board → Decider) (number : ℕ) where
+  abbrev Behind : Result (Option WrongEntry) Failed → SinkTold → SinkTold → Type 0
+  Behind = TellsBehind rules value side kept decider number
+
+  abbrev Denies : Result (Option WrongEntry) Failed → SinkTold → SinkTold → Type 0
+  Denies = TellsDenials (graph_by rules value) side (kept side) number
+
+  abbrev OtherTold : Option WrongEntry → List ℕ → Option WrongEntry → Type 0
+  OtherTold = ToldOpponent rules value (other_of side) (kept (other_of side)) decider number
+
+  pub behind_failure : is_failure (slice_index (kept side) number) ≡ true →
+      (result : Result (Option WrongEntry) Failed) (old new : SinkTold) →
+      Fails rules value side (kept side) decider number result old new → Behind result old new
+  behind_failure failing result old new h = record {
+    text = h.text;
+    wrong = h.wrong;
+    told = fails failing h.text h.wrong h.told;
+    wrote = h.wrote;
+    answers = h.answers;
+  }
+
+  pub win_told : is_win (slice_index (kept side) number) ≡ true → (out : SinkTold) →
       Behind (Ok None) out out
   win_told win out = record {
     text = [];
@@ -140,33 +225,67 @@ module _ (rules : RuleLines) (value : Board → Value) (side : Colour) (codes : 
     answers = refl;
   }
 
-  pub hold_told : slice_index codes number ≡ 1 → (result : Result (Option WrongEntry) Failed)
-      (old new : SinkTold) → TellsDenials (graph_by rules value) side codes number result old new →
+  -- the denials, with no wrong entry, and what is told of the opponent
+  pub hold_told : slice_index (kept side) number ≡ 1 →
+      (result : Result (Option WrongEntry) Failed) (old mid new : SinkTold) →
+      Denies (Ok None) old mid →
+      Opposes rules value (other_of side) (kept (other_of side)) decider number result mid new →
       Behind result old new
-  hold_told hold result old new h = record {
-    text = denials_text h.denials;
-    wrong = h.wrong;
-    told = holds hold h.denials h.wrong h.denied;
-    wrote = h.wrote;
-    answers = h.answers;
-  }
+  hold_told hold result old mid new h o =
+      let met : None ≡ h.wrong = h.answers in
+      record {
+        text = denials_text h.denials ++ o.text;
+        wrong = o.wrong;
+        told = holds hold h.denials h.wrong h.denied o.text o.wrong
+            (subst (λ (w : Option WrongEntry). OtherTold w o.text o.wrong) met o.told);
+        wrote = wrote_next h.wrote.ok o.wrote;
+        answers = o.answers;
+      }
 
-  pub broken_told : slice_index codes number ≡ 0 → (wrong : WrongEntry) →
-      wrong ≡ wrong_at (graph_by rules value) side codes number → (out : SinkTold) →
+  -- a wrong entry was met
+  pub hold_broken : slice_index (kept side) number ≡ 1 → (w : WrongEntry) (old new : SinkTold) →
+      Denies (Ok (Some w)) old new → Behind (Ok (Some w)) old new
+  hold_broken hold w old new h =
+      let met : Some w ≡ h.wrong = h.answers in
+      record {
+        text = denials_text h.denials ++ [];
+        wrong = Some w;
+        told = holds hold h.denials h.wrong h.denied [] (Some w)
+            (subst (λ (x : Option WrongEntry). OtherTold x [] (Some w)) met (met_wrong w));
+        wrote = record { ok = took_next h.wrote.ok (took_nothing new); failed = tt };
+        answers = refl;
+      }
+
+  -- the sink failed within the denials
+  pub hold_failed : slice_index (kept side) number ≡ 1 → ((met : Option WrongEntry) →
+      Tale (OtherTold met)) → (e d : Failed) (old new : SinkTold) → Denies (Err e) old new →
+      Behind (Err d) old new
+  hold_failed hold tales e d old new h =
+      let tale = tales h.wrong in
+      record {
+        text = denials_text h.denials ++ tale.text;
+        wrong = tale.wrong;
+        told = holds hold h.denials h.wrong h.denied tale.text tale.wrong tale.told;
+        wrote = record { ok = tt; failed = failed_first tale.text h.wrote.failed };
+        answers = tt;
+      }
+
+  pub broken_told : slice_index (kept side) number ≡ 0 → (wrong : WrongEntry) →
+      wrong ≡ wrong_at (graph_by rules value) side (kept side) number → (out : SinkTold) →
       Behind (Ok (Some wrong)) out out
   broken_told zero wrong is out = record {
     text = [];
-    wrong = Some (wrong_at (graph_by rules value) side codes number);
+    wrong = Some (wrong_at (graph_by rules value) side (kept side) number);
     told = neither zero;
     wrote = record { ok = took_nothing out; failed = tt };
     answers = ap (λ (w : WrongEntry). Some w) is;
   }
 
   abbrev code : ℕ
-  code = slice_index codes number
+  code = slice_index (kept side) number
 
   abbrev Tells : Result Status Failed → SinkTold → SinkTold → Type 0
-  Tells = TellsWhy rules value side codes decider number
+  Tells = TellsWhy rules value side kept decider number
 
   -- the line of the bound, what stands behind it, and a wrong entry
   pub all_told : (wrong : Option WrongEntry) (old first second new : SinkTold) →
@@ -178,7 +297,7 @@ module _ (rules : RuleLines) (value : Board → Value) (side : Colour) (codes : 
         text = h.text;
         wrong = wrong;
         told = subst (λ (w : Option WrongEntry).
-            ToldAt rules value side codes decider number h.text w) (sym is) h.told;
+            ToldAt rules value side kept decider number h.text w) (sym is) h.told;
         wrote = record { ok = took_next bound (took_next h.wrote.ok last); failed = tt };
         answers = refl;
       }
@@ -193,7 +312,7 @@ module _ (rules : RuleLines) (value : Board → Value) (side : Colour) (codes : 
         text = h.text;
         wrong = wrong;
         told = subst (λ (w : Option WrongEntry).
-            ToldAt rules value side codes decider number h.text w) (sym is) h.told;
+            ToldAt rules value side kept decider number h.text w) (sym is) h.told;
         wrote = record {
           ok = tt;
           failed = failed_next bound (failed_next h.wrote.ok last);
@@ -217,7 +336,7 @@ module _ (rules : RuleLines) (value : Board → Value) (side : Colour) (codes : 
 
   -- it failed within that line
   pub bound_failed : (text : List ℕ) (wrong : Option WrongEntry) →
-      ToldAt rules value side codes decider number text wrong → (e : Failed)
+      ToldAt rules value side kept decider number text wrong → (e : Failed)
       (old new : SinkTold) → FailedWithin (kept_line side code) old new → Tells (Err e) old new
   bound_failed text wrong told e old new failed = record {
     text = text;
@@ -229,7 +348,7 @@ module _ (rules : RuleLines) (value : Board → Value) (side : Colour) (codes : 
 
   -- the command ends with what was written
   pub ends_told : (status : Status) (old new : SinkTold) → Tells (Ok status) old new →
-      EndsWhy rules value side codes decider number (Done status) old new
+      EndsWhy rules value side kept decider number (Done status) old new
   ends_told status old new h =
       let is : status ≡ status_by h.wrong = h.answers in
       record {
@@ -240,7 +359,7 @@ module _ (rules : RuleLines) (value : Board → Value) (side : Colour) (codes : 
       }
 
   pub ends_failed : (e : Failed) (old new : SinkTold) → Tells (Err e) old new →
-      EndsWhy rules value side codes decider number SinkFault old new
+      EndsWhy rules value side kept decider number SinkFault old new
   ends_failed e old new h = record {
     text = h.text;
     wrong = h.wrong;

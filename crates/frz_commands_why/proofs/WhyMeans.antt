@@ -4,6 +4,7 @@ use Rattle.std.specs.Prelude.{map, MatchBool}
 use Rattle.std.specs.Option.{unwrap_or}
 use Rattle.std.proofs.lemmas.Bool.Decides.{nat_tests}
 use Rattle.frz_board.specs.Boards.{Board}
+use Rattle.frz_board.specs.Men.{other_of}
 use Rattle.frz_board.specs.Moving.{Step}
 use Rattle.frz_board.specs.declared.man.Colour.{Colour}
 use Rattle.frz_sets.specs.declared.exit.Value.{Value}
@@ -52,7 +53,7 @@ use Rattle.frz_commands_why.specs.declared.decider.Decider.{Decider}
 use Rattle.frz_commands_why.specs.Deciders.{leaning_on}
 use Rattle.frz_commands_why.specs.Decides.{Decides}
 use Rattle.frz_commands_why.specs.Meaning.{MeansStatus, MeansWhy, Opens, TellsAll, TellsBound, TellsNone, of_back, of_table, wins as wins_told, holds as hold_told, fails as failure_told}
-use Rattle.frz_commands_why.specs.Telling.{ToldAt, fails, holds, neither, why_text, wins}
+use Rattle.frz_commands_why.specs.Telling.{ToldAt, ToldFailure, ToldOpponent, fails, has_bound, has_none, holds, met_wrong, neither, on_way, why_text, wins}
 use Rattle.frz_commands_why.specs.Texts.{end_text, status_by, wrong_in}
 use Rattle.frz_commands_why.specs.WhyOf.{IsWhyAnswer, IsWhyAt, IsWhyBehind, IsWhyBy, backs_behind, code_at, decider_behind, value_behind}
 use Rattle.frz_commands_why.proofs.BestWay.{BestLaws, best_way}
@@ -128,8 +129,8 @@ module _ (laws : WayLaws) (table : List ℕ) (behind : List (List ℕ)) (side : 
     abbrev rules : RuleLines
     rules = open_all.contents.rules
 
-    abbrev codes : List ℕ
-    codes = kept_codes open_all.contents open_all.bytes side
+    abbrev kept : Colour → List ℕ
+    kept = kept_codes open_all.contents open_all.bytes
 
     abbrev value : Board → Value
     value = value_behind open_all.contents open_all.bytes open_all.tables
@@ -150,7 +151,7 @@ module _ (laws : WayLaws) (table : List ℕ) (behind : List (List ℕ)) (side : 
     where_exact : KeepsTables value open_all.contents open_all.bytes → (q : Board)
         → Member rules.groups q
         → KeepsBound rules value side q (code_at open_all.contents open_all.bytes side q)
-    where_exact kept q there = bound_kept value open_all.contents open_all.bytes kept side q there
+    where_exact exact q there = bound_kept value open_all.contents open_all.bytes exact side q there
 
     means_bound : a.text ≡ a.text → TellsBound open_all.contents open_all.bytes open_all.tables side
         p a.text → TellsAll table behind side p files a.text
@@ -162,7 +163,7 @@ module _ (laws : WayLaws) (table : List ℕ) (behind : List (List ℕ)) (side : 
     }
 
     means_wrong : (lines : List ℕ) (w : WrongEntry)
-        → ToldAt rules value side codes decider number lines (Some w)
+        → ToldAt rules value side kept decider number lines (Some w)
         → a ≡ says (status_by (Some w)) (why_text side code lines (Some w)) files
         → (KeepsTables value open_all.contents open_all.bytes → ⊥)
         → MeansWhy table behind side p files a
@@ -200,75 +201,164 @@ module _ (laws : WayLaws) (table : List ℕ) (behind : List (List ℕ)) (side : 
         (decider_decides open_all.contents.text rules accepted
         (backs_behind open_all.bytes open_all.tables) q)
 
-    decided_at : (reason : Reason) (q : Board) → EndsAt rules value side q reason → (n : ℕ)
-        (m : Step) (v : Value) → reason ≡ Left n m v
+    decided_at : (who : Colour) (reason : Reason) (q : Board) → EndsAt rules value who q reason
+        → (n : ℕ) (m : Step) (v : Value) → reason ≡ Left n m v
         → Decides open_all.contents.text rules (backs_behind open_all.bytes open_all.tables) q v
         (decider q)
-    decided_at reason q ends n m v is =
+    decided_at who reason q ends n m v is =
         let left : HasLeft rules value n m v q =
-        subst (λ (r : Reason). EndsAt rules value side q r) is ends in
+        subst (λ (r : Reason). EndsAt rules value who q r) is ends in
         decided_so q v left.valued
 
-    none_told : is_failure code ≡ true → (arms : List (Arm Step ℕ Value)) (reason : Reason)
-        → FailsFrom (graph_by rules value) side codes number arms reason → IsRight reason
-        → a.text ≡ kept_line side code
-        ++ (moves_text arms ++ end_text rules.groups decider reason)
-        → TellsNone open_all.contents open_all.bytes open_all.tables side p a.text
-    none_told failing arms reason way right told =
-        let plies = failure_plies code failing in
-        let ends = laws.end rules value side codes number arms reason p number_gives_position way in
-        record {
-          plies = (code - 3) / 2;
-          none = plies;
-          arms = arms;
-          reason = reason;
-          way = way;
-          right = right;
-          many = laws.length_is rules value side codes number ((code - 3) / 2) arms reason plies way
-              right;
-          game = laws.moves rules value side codes number arms reason p number_gives_position way;
-          ends = ends;
-          spoiled = laws.spoiled rules value side codes number arms reason failing way;
-          decided = decided_at reason (position_behind p arms) ends;
-          told = told;
-          best = λ kept. best_way laws.best rules value side codes (kept side) number arms reason
-              failing way;
-        }
+    -- a side without a bound, the one that is asked about or its opponent
+    module _ (who : Colour) where
+      abbrev bound_code : ℕ
+      bound_code = code_at open_all.contents open_all.bytes who p
+
+      abbrev FailsSo : List (Arm Step ℕ Value) → Reason → Type 0
+      FailsSo = FailsFrom (graph_by rules value) who (kept who) number
+
+      abbrev none_text : List (Arm Step ℕ Value) → Reason → List ℕ
+      none_text arms reason =
+          kept_line who bound_code ++ (moves_text arms ++ end_text rules.groups decider reason)
+
+      none_told : is_failure bound_code ≡ true → (arms : List (Arm Step ℕ Value)) (reason : Reason)
+          → FailsSo arms reason → IsRight reason → (text : List ℕ) → text ≡ none_text arms reason
+          → TellsNone open_all.contents open_all.bytes open_all.tables who p text
+      none_told failing arms reason way right text told =
+          let plies = failure_plies bound_code failing in
+          let ends = laws.end rules value who (kept who) number arms reason p number_gives_position
+          way in
+          record {
+            plies = (bound_code - 3) / 2;
+            none = plies;
+            arms = arms;
+            reason = reason;
+            way = way;
+            right = right;
+            many = laws.length_is rules value who (kept who) number ((bound_code - 3) / 2) arms
+                reason plies way right;
+            game = laws.moves rules value who (kept who) number arms reason p number_gives_position
+                way;
+            ends = ends;
+            spoiled = laws.spoiled rules value who (kept who) number arms reason failing way;
+            decided = decided_at who reason (position_behind p arms) ends;
+            told = told;
+            best = λ exact. best_way laws.best rules value who (kept who) (exact who) number arms
+                reason failing way;
+          }
+
+      never_wrong : (arms : List (Arm Step ℕ Value)) (w : WrongEntry) → FailsSo arms (Wrong w)
+          → KeepsTables value open_all.contents open_all.bytes → ⊥
+      never_wrong arms w way exact =
+          laws.right rules value who (kept who) (exact who) number arms (Wrong w) way
 
     by_reason : is_failure code ≡ true → (arms : List (Arm Step ℕ Value)) (reason : Reason)
-        → FailsFrom (graph_by rules value) side codes number arms reason
+        → FailsSo side arms reason
         → a ≡ says (status_by (wrong_in reason)) (why_text side code
         (moves_text arms ++ end_text rules.groups decider reason) (wrong_in reason)) files
         → MeansWhy table behind side p files a
     by_reason failing arms (Wrong w) way e =
-        means_wrong _ w (fails failing arms (Wrong w) way) e
-        (λ kept. laws.right rules value side codes (kept side) number arms (Wrong w) way)
+        means_wrong _ w (fails failing _ _ (on_way arms (Wrong w) way)) e
+        (never_wrong side arms w way)
     by_reason failing arms Mated way e =
-        means_told _ e (failure_told (none_told failing arms Mated way tt (text_is _ e)))
+        means_told _ e (failure_told
+        (none_told side failing arms Mated way tt a.text (text_is _ e)))
     by_reason failing arms Renounced way e =
-        means_told _ e (failure_told (none_told failing arms Renounced way tt (text_is _ e)))
+        means_told _ e (failure_told
+        (none_told side failing arms Renounced way tt a.text (text_is _ e)))
     by_reason failing arms (Left n m v) way e =
-        means_told _ e (failure_told (none_told failing arms (Left n m v) way tt (text_is _ e)))
+        means_told _ e (failure_told
+        (none_told side failing arms (Left n m v) way tt a.text (text_is _ e)))
 
-    by_wrong : code ≡ 1 → (denials : List Denial) (w : Option WrongEntry)
-        → DeniesWin (graph_by rules value) side codes number denials w
-        → a ≡ says (status_by w) (why_text side code (denials_text denials) w) files
+    -- what is told of the opponent of a side that holds
+    module _ (hold : code ≡ 1) (denials : List Denial)
+        (denied : DeniesWin (graph_by rules value) side (kept side) number denials None) where
+      abbrev Behind : List ℕ → Type 0
+      Behind text = MatchBool (is_failure (bound_code (other_of side)))
+          (TellsNone open_all.contents open_all.bytes open_all.tables (other_of side) p text)
+          (text ≡ [])
+
+      hold_so : (text : List ℕ) → Behind text
+          → a ≡ says (status_by None) (why_text side code (denials_text denials ++ text) None) files
+          → MeansWhy table behind side p files a
+      hold_so text told e =
+          means_told (denials_text denials ++ text) e (hold_told (record {
+            hold = hold;
+            denials = denials;
+            rows = denials_are rules value side (kept side) number p number_gives_position denials
+                None denied refl;
+            behind = text;
+            opponent = told;
+            told = text_is (denials_text denials ++ text) e;
+          }))
+
+      none_so : is_failure (bound_code (other_of side)) ≡ true → (arms : List (Arm Step ℕ Value))
+          (reason : Reason) → FailsSo (other_of side) arms reason → IsRight reason
+          → Behind (none_text (other_of side) arms reason)
+      none_so failing arms reason way right =
+          subst (λ (b : Bool). MatchBool b
+          (TellsNone open_all.contents open_all.bytes open_all.tables (other_of side) p
+          (none_text (other_of side) arms reason))
+          (none_text (other_of side) arms reason ≡ [])) (sym failing)
+          (none_told (other_of side) failing arms reason way right _ refl)
+
+      by_opponent : (failing : is_failure (bound_code (other_of side)) ≡ true)
+          → (arms : List (Arm Step ℕ Value)) (reason : Reason)
+          → FailsSo (other_of side) arms reason
+          → a ≡ says (status_by (wrong_in reason)) (why_text side code
+          (denials_text denials ++ none_text (other_of side) arms reason) (wrong_in reason)) files
+          → MeansWhy table behind side p files a
+      by_opponent failing arms (Wrong w) way e =
+          means_wrong _ w (holds hold denials None denied _ _
+          (has_none failing _ _ (on_way arms (Wrong w) way))) e
+          (never_wrong (other_of side) arms w way)
+      by_opponent failing arms Mated way e =
+          hold_so _ (none_so failing arms Mated way tt) e
+      by_opponent failing arms Renounced way e =
+          hold_so _ (none_so failing arms Renounced way tt) e
+      by_opponent failing arms (Left n m v) way e =
+          hold_so _ (none_so failing arms (Left n m v) way tt) e
+
+      by_way : is_failure (bound_code (other_of side)) ≡ true → (text : List ℕ)
+          (w : Option WrongEntry)
+          → ToldFailure rules value (other_of side) (kept (other_of side)) decider number text w
+          → a ≡ says (status_by w) (why_text side code
+          (denials_text denials ++ (kept_line (other_of side) (bound_code (other_of side)) ++ text))
+          w) files
+          → MeansWhy table behind side p files a
+      by_way failing text w (on_way arms reason way) e = by_opponent failing arms reason way e
+
+      bound_so : is_failure (bound_code (other_of side)) ≡ false → Behind []
+      bound_so stays =
+          let empty : List ℕ = [] in
+          subst (λ (b : Bool). MatchBool b
+          (TellsNone open_all.contents open_all.bytes open_all.tables (other_of side) p empty)
+          (empty ≡ [])) (sym stays) refl
+
+    by_hold : code ≡ 1 → (denials : List Denial) (met : Option WrongEntry)
+        → DeniesWin (graph_by rules value) side (kept side) number denials met
+        → (text : List ℕ) (w : Option WrongEntry)
+        → ToldOpponent rules value (other_of side) (kept (other_of side)) decider number met text w
+        → a ≡ says (status_by w) (why_text side code (denials_text denials ++ text) w) files
         → MeansWhy table behind side p files a
-    by_wrong hold denials None denied e =
-        means_told (denials_text denials) e (hold_told (record {
-          hold = hold;
-          denials = denials;
-          rows = denials_are rules value side codes number p number_gives_position denials None
-              denied refl;
-          told = text_is (denials_text denials) e;
-        }))
-    by_wrong hold denials (Some w) denied e =
-        means_wrong (denials_text denials) w (holds hold denials (Some w) denied) e
-        (λ kept. none_wrong rules value side codes number p number_gives_position (kept side)
-        denials w denied)
+    by_hold hold denials (Some m) denied text w (met_wrong x) e =
+        means_wrong _ m (holds hold denials (Some m) denied [] (Some m) (met_wrong m)) e
+        (λ exact. none_wrong rules value side (kept side) number p number_gives_position
+        (exact side) denials m denied)
+    by_hold hold denials None denied text w (has_bound stays) e =
+        hold_so hold denials denied [] (bound_so hold denials denied stays) e
+    by_hold hold denials None denied text w (has_none failing t x told) e =
+        by_way hold denials denied failing t x told e
+
+    by_failure : is_failure code ≡ true → (text : List ℕ) (w : Option WrongEntry)
+        → ToldFailure rules value side (kept side) decider number text w
+        → a ≡ says (status_by w) (why_text side code text w) files
+        → MeansWhy table behind side p files a
+    by_failure failing text w (on_way arms reason way) e = by_reason failing arms reason way e
 
     by_told : (text : List ℕ) (w : Option WrongEntry)
-        → ToldAt rules value side codes decider number text w
+        → ToldAt rules value side kept decider number text w
         → a ≡ says (status_by w) (why_text side code text w) files
         → MeansWhy table behind side p files a
     by_told text w (wins win) e =
@@ -277,11 +367,12 @@ module _ (laws : WayLaws) (table : List ℕ) (behind : List (List ℕ)) (side : 
           win = win_plies code win;
           told = text_is [] e ∙ append-nil (kept_line side code);
         }))
-    by_told text w (holds hold denials x denied) e = by_wrong hold denials x denied e
-    by_told text w (fails failing arms reason way) e = by_reason failing arms reason way e
+    by_told text w (holds hold denials met denied t x told) e =
+        by_hold hold denials met denied t x told e
+    by_told text w (fails failing t x told) e = by_failure failing t x told e
     by_told text w (neither zero) e =
         means_wrong [] _ (neither zero) e
-        (λ kept. let b = where_exact kept p inside in bound_some b.bound (sym b.is ∙ zero))
+        (λ exact. let b = where_exact exact p inside in bound_some b.bound (sym b.is ∙ zero))
 
   -- TABLE and the BACKs open
   by_member : (open_all : Opens table behind files)

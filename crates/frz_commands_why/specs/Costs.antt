@@ -4,6 +4,7 @@ use Rattle.std.specs.Prelude.{ℕ, List, [], length, Option, Some, Result, Ok, E
 use Rattle.std.specs.Option.{unwrap_or}
 use Rattle.frz_board.specs.declared.man.Colour.{Colour}
 use Rattle.frz_board.specs.Boards.{Board}
+use Rattle.frz_board.specs.Men.{other_of}
 use Rattle.frz_fide.specs.Listing.{legal_moves_of}
 use Rattle.frz_game.specs.Numbers.{is_member}
 use Rattle.frz_table.specs.declared.fault.TableFault.{TableFault}
@@ -18,7 +19,8 @@ use Rattle.frz_commands_why.specs.WhyOf.{code_at}
 abbrev pub steps_in : Contents → (bytes : List ℕ) → Colour → Board → ℕ
 steps_in contents bytes side p =
     if is_member contents.rules.groups p
-    then telling_steps (code_at contents bytes side p) (length (legal_moves_of p)) else 0
+    then telling_steps (code_at contents bytes side p) (code_at contents bytes (other_of side) p)
+    (length (legal_moves_of p)) else 0
 
 abbrev pub steps_by : Result Contents TableFault → (bytes : List ℕ) → Colour → Board → ℕ
 steps_by (Ok contents) bytes side p = steps_in contents bytes side p

@@ -2,6 +2,7 @@
 use Rattle.std.specs.Prelude.{◌≡◌, ◌⊎◌, ℕ, List, map, length, slice_index, MatchBool, if◌then◌else◌}
 use Rattle.frz_board.specs.declared.man.Colour.{Colour}
 use Rattle.frz_board.specs.Boards.{Board}
+use Rattle.frz_board.specs.Men.{other_of}
 use Rattle.frz_fide.specs.Listing.{legal_moves_of}
 use Rattle.frz_sets.specs.declared.exit.Value.{Value}
 use Rattle.frz_index.specs.Members.{Num}
@@ -41,7 +42,7 @@ codes_loaded own side = of_side side own.white.items own.black.items
 abbrev pub EndsLoaded : BackTable → List BackTable → Colour → (number : ℕ) → End → SinkTold →
     SinkTold → Type 0
 EndsLoaded own backs side number end old new =
-    EndsWhy own.table.rules (value_loaded own backs) side (codes_loaded own side)
+    EndsWhy own.table.rules (value_loaded own backs) side (codes_loaded own)
     (decider_loaded own backs) number end old new
 
 -- memory ran out, and nothing was written
@@ -60,4 +61,5 @@ abbrev pub stepping_in : BackTable → Colour → Board → ℕ
 stepping_in own side p =
     if is_member own.table.rules.groups p
     then telling_steps (slice_index (codes_loaded own side) (Num own.table.rules.groups p))
+    (slice_index (codes_loaded own (other_of side)) (Num own.table.rules.groups p))
     (length (legal_moves_of p)) else 0

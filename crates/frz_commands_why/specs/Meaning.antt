@@ -1,14 +1,15 @@
 -- What the answers of `why` mean.
-use Rattle.std.specs.Prelude.{◌≡◌, ◌++◌, ℕ, List, map, length, Some, Ok, Err, codes}
+use Rattle.std.specs.Prelude.{◌≡◌, ◌++◌, ℕ, List, [], map, length, MatchBool, Some, Ok, Err, codes}
 use Rattle.frz_board.specs.declared.man.Colour.{Colour}
 use Rattle.frz_board.specs.Boards.{Board}
+use Rattle.frz_board.specs.Men.{other_of}
 use Rattle.frz_board.specs.Moving.{Step}
 use Rattle.frz_sets.specs.declared.exit.Value.{Value}
 use Rattle.frz_index.specs.Members.{Member, Num}
 use Rattle.frz_store.specs.Files.{Files}
 use Rattle.frz_arena.specs.declared.arm.Arm.{Arm}
 use Rattle.frz_arena.specs.declared.bound.Bound.TheVariants.{Wins, Holds, Fails}
-use Rattle.frz_arena.specs.Codes.{code_of}
+use Rattle.frz_arena.specs.Codes.{code_of, is_failure}
 use Rattle.frz_game.specs.Games.{graph_by}
 use Rattle.frz_game.specs.declared.wrong.Wrong.{Wrong as WrongEntry}
 use Rattle.frz_table.specs.declared.fault.TableFault.{TableFault}
@@ -55,15 +56,6 @@ pub record TellsWin (contents : Contents) (bytes : List ℕ) (tables : List Tabl
   pub win : code_at contents bytes side p ≡ code_of (Wins plies)
   pub told : text ≡ kept_line side (code_at contents bytes side p)
 
--- the bound is a hold, and these are the rows that tell how a win is denied to the side
-pub record TellsHold (contents : Contents) (bytes : List ℕ) (tables : List TableBytes)
-    (side : Colour) (p : Board) (text : List ℕ) : Type 0 where
-  pub hold : code_at contents bytes side p ≡ code_of Holds
-  pub denials : List Denial
-  pub rows : AreDenials contents.rules (value_behind contents bytes tables) side
-      (kept_codes contents bytes side) p denials
-  pub told : text ≡ kept_line side (code_at contents bytes side p) ++ denials_text denials
-
 -- the side has no bound, and this is the way on which it fails: a game of chess from the position,
 -- of so many moves as the code says, with its reason at the end. A value outside is the one that
 -- counts, and was decided by the line or table that is told. By the exact table of the side, no
@@ -91,6 +83,20 @@ pub record TellsNone (contents : Contents) (bytes : List ℕ) (tables : List Tab
   pub best : KeepsTables (value_behind contents bytes tables) contents bytes →
       AreBest contents.rules (value_behind contents bytes tables) side
       (Num contents.rules.groups p) arms
+
+-- the bound is a hold, and these are the rows that tell how a win is denied to the side. Behind
+-- them the same is told of an opponent that has no bound as of a side that has none, and else nothing
+pub record TellsHold (contents : Contents) (bytes : List ℕ) (tables : List TableBytes)
+    (side : Colour) (p : Board) (text : List ℕ) : Type 0 where
+  pub hold : code_at contents bytes side p ≡ code_of Holds
+  pub denials : List Denial
+  pub rows : AreDenials contents.rules (value_behind contents bytes tables) side
+      (kept_codes contents bytes side) p denials
+  pub behind : List ℕ
+  pub opponent : MatchBool (is_failure (code_at contents bytes (other_of side) p))
+      (TellsNone contents bytes tables (other_of side) p behind) (behind ≡ [])
+  pub told : text ≡ kept_line side (code_at contents bytes side p)
+      ++ (denials_text denials ++ behind)
 
 -- the bound of the side is told, and why it has no better one
 pub data TellsBound (contents : Contents) (bytes : List ℕ) (tables : List TableBytes)

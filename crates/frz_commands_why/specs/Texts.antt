@@ -1,6 +1,6 @@
 -- The lines that `why` writes behind the moves of a way, and behind all else where an entry is
 -- wrong.
-use Rattle.std.specs.Prelude.{◌≡◌, ℕ, true, List, [], ◌++◌, Option, None, Some, IfSome, codes, decimal, option_map, ⊤}
+use Rattle.std.specs.Prelude.{◌≡◌, ℕ, true, List, [], ◌++◌, Option, None, Some, IfSome, codes, decimal, ⊤}
 use Rattle.frz_board.specs.Boards.{Board}
 use Rattle.frz_board.specs.Moving.{Step}
 use Rattle.frz_fide.specs.Legal.{after, is_legal}
@@ -13,6 +13,7 @@ use Rattle.frz_answer.specs.declared.status.Status.{Status}
 use Rattle.frz_answer.specs.declared.status.Status.TheVariants as statuses
 use Rattle.frz_prelude.specs.WrongLines.{wrong_line}
 use Rattle.frz_ways.specs.Texts.{exit_line}
+use Rattle.frz_repairs.specs.Repairs.{repairs_text}
 use Rattle.frz_reasons.specs.declared.reason.Reason.{Reason}
 use Rattle.frz_reasons.specs.declared.reason.Reason.TheVariants.{Wrong, Mated, Renounced, Left}
 use Rattle.frz_commands_why.specs.declared.decider.Decider.{Decider}
@@ -29,13 +30,16 @@ abbrev pub exit_lines : Value → Board → Decider → List ℕ
 exit_lines value q decider =
     exit_line value ++ ((fen_text q ++ codes "\n") ++ decider_line decider)
 
--- the position to which a move leads from that of a number
-abbrev pub position_after : List GroupLine → ℕ → Step → Option Board
-position_after groups number m = option_map (λ p. after p m) (position_at groups number)
+-- what would repair an exit by this move, where nothing decided its value
+abbrev pub lack_text : Decider → Board → Step → List ℕ
+lack_text NoLine p m = repairs_text p m
+lack_text decider p m = []
 
-abbrev pub exit_text : (Board → Decider) → Value → Option Board → List ℕ
-exit_text decider value None = []
-exit_text decider value (Some q) = exit_lines value q (decider q)
+-- the exit by a move from the position, and its repairs
+abbrev pub exit_text : (Board → Decider) → Value → Step → Option Board → List ℕ
+exit_text decider value m None = []
+exit_text decider value m (Some p) =
+    exit_lines value (after p m) (decider (after p m)) ++ lack_text (decider (after p m)) p m
 
 -- the lines of the end of a way; where an entry is wrong, `wrong_text` tells it
 abbrev pub end_text : List GroupLine → (Board → Decider) → Reason → List ℕ
@@ -43,7 +47,7 @@ end_text groups decider (Wrong w) = []
 end_text groups decider Mated = codes "mate\n"
 end_text groups decider Renounced = codes "renounced\n"
 end_text groups decider (Left number m value) =
-    exit_text decider value (position_after groups number m)
+    exit_text decider value m (position_at groups number)
 
 -- where the reason is an exit, the move to it is legal at the position of the number
 abbrev pub LeavesLegally : List GroupLine → Reason → Type 0

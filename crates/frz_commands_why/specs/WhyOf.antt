@@ -51,7 +51,7 @@ abbrev pub IsToldOf : Contents → (bytes : List ℕ) → List TableBytes → Co
     Option Wrong → Type 0
 IsToldOf contents bytes tables side p text wrong =
     ToldAt contents.rules (value_behind contents bytes tables) side
-    (kept_codes contents bytes side) (decider_behind contents bytes tables)
+    (kept_codes contents bytes) (decider_behind contents bytes tables)
     (Num contents.rules.groups p) text wrong
 
 -- the answer at a position of the set

@@ -1,8 +1,10 @@
 //! Tells why the bound of a side at a number is no better one, by codes in memory.
-ghost use Rattle.std.specs.Prelude.{◌≡◌, ◌≤◌, ◌<◌, ◌+◌, ◌/◌, ◌^◌, true, length, map, slice_index, IfOk, IfSome, IsSome};
-ghost use Rattle.frz_arena.specs.Codes.{is_failure};
+ghost use Rattle.std.specs.Prelude.{◌≡◌, ◌≤◌, ◌<◌, ◌+◌, ◌/◌, ◌^◌, true, length, map, slice_index, IfOk, IfSome, IsSome, None, Some};
+ghost use Rattle.frz_arena.specs.Codes.{is_failure as fails_by};
 ghost use Rattle.frz_backs.specs.FileOn.{loaded_back};
+ghost use Rattle.frz_board.specs.Men.{other_of};
 ghost use Rattle.frz_fide.specs.Legal.{is_legal};
+ghost use Rattle.frz_fide.specs.Valid.{IsValid};
 ghost use Rattle.frz_game.specs.Games.{graph_by};
 ghost use Rattle.frz_game.specs.Numbers.{position_at};
 ghost use Rattle.frz_reasons.specs.LocalEntries.{wrong_at};
@@ -12,14 +14,15 @@ ghost use Rattle.frz_store.specs.Told.{sink_of};
 ghost use Rattle.frz_answer.specs.Ends.{Said};
 ghost use Rattle.frz_answer.specs.Texts.{WroteText};
 ghost use Rattle.frz_commands_why.specs.Deciders.{decider_of};
-ghost use Rattle.frz_commands_why.specs.Telling.{EndsWhy, TellsBehind, TellsWhy, telling_steps};
+ghost use Rattle.frz_commands_why.specs.Telling.{EndsWhy, TellsBehind, TellsSo, TellsWhy, ToldFailure, ToldOpponent, telling_steps};
 ghost use Rattle.frz_commands_why.specs.Texts as words;
 ghost use Rattle.frz_commands_why.specs.Texts.{LeavesLegally};
 
 use crate::decider::Deciding;
-use crate::texts::{write_exit, write_wrong_entry};
+use crate::texts::{write_exit, write_lack, write_wrong_entry};
 use frz_answer::{End, Status, write_piece};
-use frz_arena::is_win;
+use frz_arena::{is_failure, is_win};
+use frz_bits::Bitboards;
 use frz_board::{Colour, Move};
 use frz_bound_lines::write_kept_line;
 use frz_exits::ExitBook;
@@ -34,7 +37,28 @@ use frz_steps::Steps;
 use frz_store::{Failed, Sink};
 use std::sync::ledger::Ledger;
 
-/// Writes the lines of the exit to which a legal move leads from the position of the number.
+/// Writes the lines of the exit by a legal move, and its repairs.
+fn write_left_from<O: Sink>(
+    deciding: &Deciding<'_>,
+    p: &Bitboards,
+    mv: Move,
+    value: Value,
+    out: &mut O,
+) -> Result<(), Failed>
+    requires sound { IsSound deciding.now.rules.now }
+    requires valid { IsValid p.now }
+    requires legal { is_legal p.now mv ≡ true }
+    ensures { WroteText (words.exit_text (decider_of deciding.now.numbers.now
+        deciding.now.rules.now (map loaded_back deciding.now.backs.now)) value mv (Some p.now))
+        result (sink_of O.Sink out.old) (sink_of O.Sink out.new) }
+{
+    let q = after(p, mv);
+    let decider = deciding.decider(&q);
+    write_exit(value, q.as_position(), decider, out)?;
+    write_lack(decider, p, mv, out)
+}
+
+/// The same for a move from the position of the number.
 fn write_left<O: Sink>(
     set: &Set,
     deciding: &Deciding<'_>,
@@ -46,16 +70,13 @@ fn write_left<O: Sink>(
     requires sound { IsSound deciding.now.rules.now }
     requires legal { IfSome (position_at set.now number) (λ p. is_legal p mv ≡ true) }
     ensures { WroteText (words.exit_text (decider_of deciding.now.numbers.now
-        deciding.now.rules.now (map loaded_back deciding.now.backs.now)) value
-        (words.position_after set.now number mv)) result
+        deciding.now.rules.now (map loaded_back deciding.now.backs.now)) value mv
+        (position_at set.now number)) result
         (sink_of O.Sink out.old) (sink_of O.Sink out.new) }
 {
     match set.boards_at(number) {
         None => Ok(()),
-        Some(p) => {
-            let q = after(&p, mv);
-            write_exit(value, q.as_position(), deciding.decider(&q), out)
-        }
+        Some(p) => write_left_from(deciding, &p, mv, value, out),
     }
 }
 
@@ -125,10 +146,10 @@ fn tell_failure<B: ExitBook, E: Entries, O: Sink, L: Ledger>(
     requires below { number < size_of game.now.rules.now.groups }
     requires many { length (E.codes entries.now side) ≡ size_of game.now.rules.now.groups }
     requires few { size_of game.now.rules.now.groups ≤ 2 ^ 27 }
-    requires failing { is_failure (slice_index (E.codes entries.now side) number) ≡ true }
-    ensures told { TellsBehind game.now.rules.now (B.value_at game.now.book.now) side
+    requires failing { fails_by (slice_index (E.codes entries.now side) number) ≡ true }
+    ensures told { TellsSo (ToldFailure game.now.rules.now (B.value_at game.now.book.now) side
         (E.codes entries.now side) (decider_of deciding.now.numbers.now
-        deciding.now.rules.now (map loaded_back deciding.now.backs.now)) number result
+        deciding.now.rules.now (map loaded_back deciding.now.backs.now)) number) result
         (sink_of O.Sink out.old) (sink_of O.Sink out.new) }
     ensures steps { steps.new ≤ steps.old + slice_index (E.codes entries.now side) number / 2 }
     ensures later { steps.old ≤ steps.new }
@@ -136,6 +157,74 @@ fn tell_failure<B: ExitBook, E: Entries, O: Sink, L: Ledger>(
     failing_ways_are_games();
     let reason = write_failing_way(game, entries, side, number, out, steps)?;
     write_end(game.set, deciding, reason, out)
+}
+
+/// Tells behind the denials of a hold why the opponent has no bound, if he has none: the line of
+/// his bound, and the way on which he fails.
+fn tell_opponent<B: ExitBook, E: Entries, O: Sink, L: Ledger>(
+    game: &Game<'_, B>,
+    entries: &E,
+    deciding: &Deciding<'_>,
+    opponent: Colour,
+    number: u32,
+    out: &mut O,
+    steps: &mut Steps<L>,
+) -> Result<Option<Wrong>, Failed>
+    requires sound { IsSound deciding.now.rules.now }
+    requires inside { IsSome (position_at game.now.rules.now.groups number) }
+    requires below { number < size_of game.now.rules.now.groups }
+    requires many { length (E.codes entries.now opponent) ≡ size_of game.now.rules.now.groups }
+    requires few { size_of game.now.rules.now.groups ≤ 2 ^ 27 }
+    ensures told { TellsSo (ToldOpponent game.now.rules.now (B.value_at game.now.book.now) opponent
+        (E.codes entries.now opponent) (decider_of deciding.now.numbers.now
+        deciding.now.rules.now (map loaded_back deciding.now.backs.now)) number None) result
+        (sink_of O.Sink out.old) (sink_of O.Sink out.new) }
+    ensures steps { steps.new ≤ steps.old + slice_index (E.codes entries.now opponent) number / 2 }
+    ensures later { steps.old ≤ steps.new }
+{
+    one_failing_way();
+    let code = entries.entry(opponent, number);
+    if !is_failure(code) {
+        return Ok(None);
+    }
+    write_kept_line(opponent, code, out)?;
+    tell_failure(game, entries, deciding, opponent, number, out, steps)
+}
+
+/// Tells how a win is denied to a side that holds, and why its opponent has no bound, if he has
+/// none.
+fn tell_hold<B: ExitBook, E: Entries, O: Sink, L: Ledger>(
+    game: &Game<'_, B>,
+    entries: &E,
+    deciding: &Deciding<'_>,
+    side: Colour,
+    number: u32,
+    out: &mut O,
+    steps: &mut Steps<L>,
+) -> Result<Option<Wrong>, Failed>
+    requires sound { IsSound deciding.now.rules.now }
+    requires inside { IsSome (position_at game.now.rules.now.groups number) }
+    requires below { number < size_of game.now.rules.now.groups }
+    requires many { length (E.codes entries.now side) ≡ size_of game.now.rules.now.groups }
+    requires others { length (E.codes entries.now (other_of side))
+        ≡ size_of game.now.rules.now.groups }
+    requires few { size_of game.now.rules.now.groups ≤ 2 ^ 27 }
+    requires holds { slice_index (E.codes entries.now side) number ≡ 1 }
+    ensures told { TellsBehind game.now.rules.now (B.value_at game.now.book.now) side
+        (E.codes entries.now) (decider_of deciding.now.numbers.now
+        deciding.now.rules.now (map loaded_back deciding.now.backs.now)) number result
+        (sink_of O.Sink out.old) (sink_of O.Sink out.new) }
+    ensures steps { steps.new ≤ steps.old + telling_steps
+        (slice_index (E.codes entries.now side) number)
+        (slice_index (E.codes entries.now (other_of side)) number)
+        (length ((graph_by game.now.rules.now (B.value_at game.now.book.now)).arms number)) }
+    ensures later { steps.old ≤ steps.new }
+{
+    one_failing_way();
+    match write_denials(game, entries, side, number, out, steps)? {
+        Some(wrong) => Ok(Some(wrong)),
+        None => tell_opponent(game, entries, deciding, side.other(), number, out, steps),
+    }
 }
 
 /// Tells what stands behind the line of the bound, and answers the entry that is wrong, if one is
@@ -153,13 +242,16 @@ fn tell_behind<B: ExitBook, E: Entries, O: Sink, L: Ledger>(
     requires inside { IsSome (position_at game.now.rules.now.groups number) }
     requires below { number < size_of game.now.rules.now.groups }
     requires many { length (E.codes entries.now side) ≡ size_of game.now.rules.now.groups }
+    requires others { length (E.codes entries.now (other_of side))
+        ≡ size_of game.now.rules.now.groups }
     requires few { size_of game.now.rules.now.groups ≤ 2 ^ 27 }
     ensures told { TellsBehind game.now.rules.now (B.value_at game.now.book.now) side
-        (E.codes entries.now side) (decider_of deciding.now.numbers.now
+        (E.codes entries.now) (decider_of deciding.now.numbers.now
         deciding.now.rules.now (map loaded_back deciding.now.backs.now)) number result
         (sink_of O.Sink out.old) (sink_of O.Sink out.new) }
     ensures steps { steps.new ≤ steps.old + telling_steps
         (slice_index (E.codes entries.now side) number)
+        (slice_index (E.codes entries.now (other_of side)) number)
         (length ((graph_by game.now.rules.now (B.value_at game.now.book.now)).arms number)) }
     ensures later { steps.old ≤ steps.new }
 {
@@ -168,7 +260,7 @@ fn tell_behind<B: ExitBook, E: Entries, O: Sink, L: Ledger>(
         return Ok(None);
     }
     if code == 1 {
-        return write_denials(game, entries, side, number, out, steps);
+        return tell_hold(game, entries, deciding, side, number, out, steps);
     }
     if code == 0 {
         return Ok(Some(wrong_entry(game, entries, side, number, code, steps)));
@@ -191,13 +283,16 @@ fn tell_all<B: ExitBook, E: Entries, O: Sink, L: Ledger>(
     requires inside { IsSome (position_at game.now.rules.now.groups number) }
     requires below { number < size_of game.now.rules.now.groups }
     requires many { length (E.codes entries.now side) ≡ size_of game.now.rules.now.groups }
+    requires others { length (E.codes entries.now (other_of side))
+        ≡ size_of game.now.rules.now.groups }
     requires few { size_of game.now.rules.now.groups ≤ 2 ^ 27 }
     ensures told { TellsWhy game.now.rules.now (B.value_at game.now.book.now) side
-        (E.codes entries.now side) (decider_of deciding.now.numbers.now
+        (E.codes entries.now) (decider_of deciding.now.numbers.now
         deciding.now.rules.now (map loaded_back deciding.now.backs.now)) number result
         (sink_of O.Sink out.old) (sink_of O.Sink out.new) }
     ensures steps { steps.new ≤ steps.old + telling_steps
         (slice_index (E.codes entries.now side) number)
+        (slice_index (E.codes entries.now (other_of side)) number)
         (length ((graph_by game.now.rules.now (B.value_at game.now.book.now)).arms number)) }
     ensures later { steps.old ≤ steps.new }
 {
@@ -225,13 +320,16 @@ pub fn tell_why<B: ExitBook, E: Entries, O: Sink, L: Ledger>(
     requires inside { IsSome (position_at game.now.rules.now.groups number) }
     requires below { number < size_of game.now.rules.now.groups }
     requires many { length (E.codes entries.now side) ≡ size_of game.now.rules.now.groups }
+    requires others { length (E.codes entries.now (other_of side))
+        ≡ size_of game.now.rules.now.groups }
     requires few { size_of game.now.rules.now.groups ≤ 2 ^ 27 }
     ensures told { EndsWhy game.now.rules.now (B.value_at game.now.book.now) side
-        (E.codes entries.now side) (decider_of deciding.now.numbers.now
+        (E.codes entries.now) (decider_of deciding.now.numbers.now
         deciding.now.rules.now (map loaded_back deciding.now.backs.now)) number result
         (sink_of O.Sink out.old) (sink_of O.Sink out.new) }
     ensures steps { steps.new ≤ steps.old + telling_steps
         (slice_index (E.codes entries.now side) number)
+        (slice_index (E.codes entries.now (other_of side)) number)
         (length ((graph_by game.now.rules.now (B.value_at game.now.book.now)).arms number)) }
     ensures later { steps.old ≤ steps.new }
 {

@@ -1,6 +1,7 @@
 //! The lines that `why` writes behind the moves of a way.
-ghost use Rattle.std.specs.Prelude.{◌≡◌, ◌++◌, codes};
+ghost use Rattle.std.specs.Prelude.{◌≡◌, ◌++◌, codes, true};
 ghost use Rattle.frz_fen.specs.Writing.{fen_text};
+ghost use Rattle.frz_fide.specs.Legal.{is_legal};
 ghost use Rattle.frz_fide.specs.Valid.{IsValid};
 ghost use Rattle.frz_store.specs.Told.{sink_of};
 ghost use Rattle.frz_answer.specs.Texts.{WroteText};
@@ -9,10 +10,12 @@ ghost use Rattle.frz_commands_why.specs.Texts as words;
 
 use crate::decider::Decider;
 use frz_answer::{write_line, write_numbered_line, write_piece};
-use frz_board::Position;
+use frz_bits::Bitboards;
+use frz_board::{Move, Position};
 use frz_fen::write_fen;
 use frz_game::Wrong;
 use frz_prelude::write_wrong;
+use frz_repairs::write_repairs;
 use frz_sets::Value;
 use frz_store::{Failed, Sink};
 use frz_ways::write_value;
@@ -60,6 +63,24 @@ pub fn write_exit<O: Sink>(
     write_value_line(value, out)?;
     write_position(q, out)?;
     write_decider(decider, out)
+}
+
+/// Writes what would repair the exit by a legal move, where nothing decided its value.
+pub fn write_lack<O: Sink>(
+    decider: Decider,
+    p: &Bitboards,
+    mv: Move,
+    out: &mut O,
+) -> Result<(), Failed>
+    requires valid { IsValid p.now }
+    requires legal { is_legal p.now mv ≡ true }
+    ensures { WroteText (words.lack_text decider p.now mv) result
+        (sink_of O.Sink out.old) (sink_of O.Sink out.new) }
+{
+    match decider {
+        Decider::NoLine => write_repairs(p, mv, out),
+        _ => Ok(()),
+    }
 }
 
 /// Writes the line of the wrong entry, if one was met.

@@ -5,6 +5,7 @@ ghost use Rattle.std.specs.String.{string_bytes};
 ghost use Rattle.frz_fide.specs.Valid.{IsValid};
 ghost use Rattle.frz_fide.specs.Listing.{legal_moves_of};
 ghost use Rattle.frz_board.specs.Boards.{Board};
+ghost use Rattle.frz_board.specs.Men.{other_of};
 ghost use Rattle.frz_sets.specs.Sound.{IsSound};
 ghost use Rattle.frz_game.specs.Games.{graph_by};
 ghost use Rattle.frz_game.specs.Numbers.{position_at};
@@ -56,11 +57,12 @@ fn tell_by<B: ExitBook, O: Sink, L: Ledger>(
     requires sound { IsSound deciding.now.rules.now }
     requires inside { IsSome (position_at own.now.table.rules.groups number) }
     ensures told { EndsWhy own.now.table.rules (B.value_at book.now) side
-        (codes_loaded own.now side) (decider_of deciding.now.numbers.now deciding.now.rules.now
+        (codes_loaded own.now) (decider_of deciding.now.numbers.now deciding.now.rules.now
         (map loaded_back deciding.now.backs.now)) number result
         (sink_of O.Sink out.old) (sink_of O.Sink out.new) }
     ensures steps { steps.new ≤ steps.old + telling_steps
         (slice_index (codes_loaded own.now side) number)
+        (slice_index (codes_loaded own.now (other_of side)) number)
         (length ((graph_by own.now.table.rules (B.value_at book.now)).arms number)) }
     ensures later { steps.old ≤ steps.new }
 {
@@ -93,7 +95,7 @@ fn tell_in<O: Sink, L: Ledger>(
         (sink_of O.Sink out.old) (sink_of O.Sink out.new) }
     ensures steps { (p : Board) → position_at own.now.table.rules.groups number ≡ Some p →
         steps.new ≤ steps.old + telling_steps (slice_index (codes_loaded own.now side) number)
-        (length (legal_moves_of p)) }
+        (slice_index (codes_loaded own.now (other_of side)) number) (length (legal_moves_of p)) }
     ensures later { steps.old ≤ steps.new }
 {
     let rules = own.table.rules();

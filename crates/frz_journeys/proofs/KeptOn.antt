@@ -15,7 +15,8 @@ use Rattle.frz_game.specs.Games.{graph_by}
 use Rattle.frz_index.specs.Members.{Member, Num}
 use Rattle.frz_index.specs.Membership.{position_at}
 use Rattle.frz_index.proofs.Lemmas.{position_of}
-use Rattle.frz_chain.specs.Books.{told_at}
+use Rattle.frz_backs.specs.Counts.{counts_of}
+use Rattle.frz_backs.specs.Values.{told_in}
 use Rattle.frz_backs.specs.Links.{Link, backs_of, value_over}
 use Rattle.frz_ways.specs.declared.opponent.Opponent.{Opponent}
 use Rattle.frz_ways.specs.ChessGames.{after_plies}
@@ -55,21 +56,6 @@ HoldsKept = (rules : RuleLines) (value : Board → Value) (opponent : Opponent)
     GoesOn (graph_by rules value) opponent side codes 0 input start plies end left →
     EndsHeld (counted (graph_by rules value)) side end
 
-good_known : (side : Colour) (v : Value) → class_of v side ≡ Good → v ≡ Unknown → ⊥
-good_known side v good e =
-    (let bad : class_of Unknown side ≡ Good = subst (λ (x : Value). class_of x side ≡ Good) e good in
-    cc)
-
-safe_known : (side : Colour) (v : Value) → class_of v side ≡ Safe → v ≡ Unknown → ⊥
-safe_known side v safe e =
-    (let bad : class_of Unknown side ≡ Safe = subst (λ (x : Value). class_of x side ≡ Safe) e safe in
-    cc)
-
-held_known : (side : Colour) (v : Value) → (class_of v side ≡ Good) ⊎ (class_of v side ≡ Safe)
-    → v ≡ Unknown → ⊥
-held_known side v (inl good) = good_known side v good
-held_known side v (inr safe) = safe_known side v safe
-
 module _ (side : Colour) (before : List Link) (table : Link) (p : Board) (plies : List WayPly)
     (own : HaveOwnSets before) where
   abbrev Valued : EndOfWay → Type 0
@@ -84,7 +70,7 @@ module _ (side : Colour) (before : List Link) (table : Link) (p : Board) (plies 
   last_won (Mated mover) won valued none = won
   last_won (Stalemated mover) won valued none = won
   last_won (Exit v) won valued none = (
-    by_lines before table (after_plies p plies) v own (valued v refl) none (good_known side v won),
+    by_lines before table (after_plies p plies) v own (valued v refl) none,
     won,
   )
   last_won Cut won valued none = won
@@ -98,7 +84,7 @@ module _ (side : Colour) (before : List Link) (table : Link) (p : Board) (plies 
   last_held (Mated mover) held valued none = held
   last_held (Stalemated mover) held valued none = tt
   last_held (Exit v) held valued none = (
-    by_lines before table (after_plies p plies) v own (valued v refl) none (held_known side v held),
+    by_lines before table (after_plies p plies) v own (valued v refl) none,
     held,
   )
   last_held Cut held valued none = tt
@@ -107,7 +93,8 @@ module _ (side : Colour) (before : List Link) (table : Link) (p : Board) (plies 
   -- where a table goes on, what it has kept
   told_next : (end : EndOfWay) (next : ℕ × Link) → Valued end
       → (on : IsOnward before table p plies end next)
-      → on.value ≡ told_at next.1.back (Some (Num next.1.rules.groups (after_plies p plies)))
+      → on.value ≡ told_in (counts_of (backs_of before)) next.1.back
+      (Num next.1.rules.groups (after_plies p plies))
   told_next end next valued on =
       by_table before table (after_plies p plies) on.value next own (valued on.value on.out) on.at
 
@@ -119,7 +106,7 @@ module _ (side : Colour) (before : List Link) (table : Link) (p : Board) (plies 
   next_wins end next won valued on =
       let good : class_of on.value side ≡ Good =
       subst (λ (e : EndOfWay). EndsWon (counted (arena_over before table)) side e) on.out won in
-      good_wins side next.1 (Num next.1.rules.groups (after_plies p plies))
+      good_wins (counts_of (backs_of before)) side next.1 (Num next.1.rules.groups (after_plies p plies))
       (subst (λ (v : Value). class_of v side ≡ Good) (told_next end next valued on) good)
 
   -- a win, or a hold
@@ -127,14 +114,15 @@ module _ (side : Colour) (before : List Link) (table : Link) (p : Board) (plies 
   IsKept code = ((n : ℕ) × (code ≡ 2 + 2 * n)) ⊎ (code ≡ 1)
 
   held_by : (next : ℕ × Link) (v : Value)
-      → v ≡ told_at next.1.back (Some (Num next.1.rules.groups (after_plies p plies)))
+      → v ≡ told_in (counts_of (backs_of before)) next.1.back
+      (Num next.1.rules.groups (after_plies p plies))
       → (class_of v side ≡ Good) ⊎ (class_of v side ≡ Safe)
       → IsKept (slice_index (codes_of side next.1) (Num next.1.rules.groups (after_plies p plies)))
   held_by next v is (inl good) =
-      inl (good_wins side next.1 (Num next.1.rules.groups (after_plies p plies))
+      inl (good_wins (counts_of (backs_of before)) side next.1 (Num next.1.rules.groups (after_plies p plies))
       (subst (λ (x : Value). class_of x side ≡ Good) is good))
   held_by next v is (inr safe) =
-      inr (safe_holds side next.1 (Num next.1.rules.groups (after_plies p plies))
+      inr (safe_holds (counts_of (backs_of before)) side next.1 (Num next.1.rules.groups (after_plies p plies))
       (subst (λ (x : Value). class_of x side ≡ Safe) is safe))
 
   next_held : (end : EndOfWay) (next : ℕ × Link)

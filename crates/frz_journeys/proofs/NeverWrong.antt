@@ -14,8 +14,8 @@ use Rattle.frz_game.specs.Bounds.{IsTableOf}
 use Rattle.frz_game.specs.Games.{arena_by, graph_by}
 use Rattle.frz_game.specs.Numbers.{number_of, numbers_by}
 use Rattle.frz_index.specs.Members.{Member, Num}
-use Rattle.frz_chain.specs.Books.{Back}
-use Rattle.frz_chain.specs.FileOn.{IsExactBack}
+use Rattle.frz_backs.specs.Books.{Back}
+use Rattle.frz_backs.specs.FileOn.{IsExactBack}
 use Rattle.frz_backs.specs.Links.{AreExactOver, Link, backs_of, value_over}
 use Rattle.frz_ways.specs.declared.opponent.Opponent.{Opponent}
 use Rattle.frz_ways.specs.ChessGames.{after_plies}

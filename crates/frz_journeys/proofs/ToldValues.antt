@@ -18,32 +18,37 @@ use Rattle.frz_exits.specs.Values.{class_of}
 use Rattle.frz_index.specs.Members.{Num}
 use Rattle.frz_index.specs.Membership.{is_member, number_of}
 use Rattle.frz_index.proofs.Lemmas.{number_missing, number_there}
-use Rattle.frz_chain.specs.Books.{or_else, told_at}
+use Rattle.frz_chain.specs.Books.{Back as Codes, back_with, or_else, told_at}
+use Rattle.frz_chain.specs.PairValues.{pair_value}
 use Rattle.frz_chain.specs.ChainPlies.{back_codes}
 use Rattle.frz_chain.proofs.Lemmas.{holds_of_pair_value, win_told}
 use Rattle.frz_backs.specs.Links.{Link, backs_of, value_over}
-use Rattle.frz_backs.specs.Values.{first_value, told_or}
-use Rattle.frz_backs.proofs.Lemmas.{front_tells, none_tell}
-use Rattle.frz_journeys.specs.KeptBounds.{HaveOwnSets}
+use Rattle.frz_backs.specs.declared.counts.Counts.{Counts}
+use Rattle.frz_backs.specs.Behind.{value_behind}
+use Rattle.frz_backs.specs.Counts.{counts_of}
+use Rattle.frz_backs.specs.Values.{first_value, told_in, told_or}
+use Rattle.frz_backs.proofs.Lemmas.{front_tells, none_tell, told_class}
+use Rattle.frz_journeys.specs.KeptBounds.{HaveOwnSets, LinesGive}
 use Rattle.frz_journeys.specs.Tables.{codes_of, first_from, leant_on, next_of, where_unknown}
 use Rattle.frz_journeys.proofs.NextTables.{GoesOnAt}
 
 -- the table in front tells of the position, or the rest do
-front_has : (table : Link) (tables : List Link) (q : Board) → table.back.groups ≡ table.rules.groups
-    → is_member table.rules.groups q ≡ true
-    → first_value (backs_of (table ∷ tables)) q
-    ≡ told_at table.back (Some (Num table.rules.groups q))
-front_has table tables q own inside =
-    front_tells table.back (backs_of tables) q
-    ∙ ap (told_or table.back (first_value (backs_of tables) q))
+front_has : (counts : Counts) (rest : Value) (table : Link) (tables : List Link) (q : Board)
+    → table.back.groups ≡ table.rules.groups → is_member table.rules.groups q ≡ true
+    → first_value counts rest (backs_of (table ∷ tables)) q
+    ≡ told_in counts table.back (Num table.rules.groups q)
+front_has counts rest table tables q own inside =
+    front_tells counts rest table.back (backs_of tables) q
+    ∙ ap (told_or counts table.back (first_value counts rest (backs_of tables) q))
     (ap (λ gs. number_of gs q) own ∙ number_there table.rules.groups q inside)
 
-front_lacks : (table : Link) (tables : List Link) (q : Board)
+front_lacks : (counts : Counts) (rest : Value) (table : Link) (tables : List Link) (q : Board)
     → table.back.groups ≡ table.rules.groups → is_member table.rules.groups q ≡ false
-    → first_value (backs_of (table ∷ tables)) q ≡ first_value (backs_of tables) q
-front_lacks table tables q own outside =
-    front_tells table.back (backs_of tables) q
-    ∙ ap (told_or table.back (first_value (backs_of tables) q))
+    → first_value counts rest (backs_of (table ∷ tables)) q
+    ≡ first_value counts rest (backs_of tables) q
+front_lacks counts rest table tables q own outside =
+    front_tells counts rest table.back (backs_of tables) q
+    ∙ ap (told_or counts table.back (first_value counts rest (backs_of tables) q))
     (ap (λ gs. number_of gs q) own ∙ number_missing table.rules.groups q outside)
 
 abbrev chosen : Bool → ℕ → Link → List Link → Board → Option (ℕ × Link)
@@ -63,12 +68,13 @@ own_sets table tables own = (
 )
 
 -- the first table whose set holds the position tells its value
-pub first_tells : (place : ℕ) (tables : List Link) (q : Board) (next : ℕ × Link)
-    → HaveOwnSets tables → first_from place tables q ≡ Some next
-    → first_value (backs_of tables) q ≡ told_at next.1.back (Some (Num next.1.rules.groups q))
+pub first_tells : (counts : Counts) (rest : Value) (place : ℕ) (tables : List Link) (q : Board)
+    (next : ℕ × Link) → HaveOwnSets tables → first_from place tables q ≡ Some next
+    → first_value counts rest (backs_of tables) q
+    ≡ told_in counts next.1.back (Num next.1.rules.groups q)
 unfolding first_from
-first_tells place [] q next own e = absurd (cc)
-first_tells place (table ∷ tables) q next own e =
+first_tells counts rest place [] q next own e = absurd (cc)
+first_tells counts rest place (table ∷ tables) q next own e =
     let each = own_sets table tables own in
     elim (cases_Bool (is_member table.rules.groups q)) [
       | inl t ↦ (
@@ -76,74 +82,80 @@ first_tells place (table ∷ tables) q next own e =
           subst (λ (b : Bool). chosen b place table tables q ≡ Some next) t e in
           let same : table ≡ next.1 = (let pair : (place, table) ≡ next = cc in
           ap (λ (n : ℕ × Link). n.1) pair) in
-          front_has table tables q each.0 t
-          ∙ ap (λ (l : Link). told_at l.back (Some (Num l.rules.groups q))) same)
+          front_has counts rest table tables q each.0 t
+          ∙ ap (λ (l : Link). told_in counts l.back (Num l.rules.groups q)) same)
       | inr f ↦ (
-          let rest : chosen false place table tables q ≡ Some next =
+          let later : chosen false place table tables q ≡ Some next =
           subst (λ (b : Bool). chosen b place table tables q ≡ Some next) f e in
-          front_lacks table tables q each.0 f ∙ first_tells (suc place) tables q next each.1 rest)
+          front_lacks counts rest table tables q each.0 f
+          ∙ first_tells counts rest (suc place) tables q next each.1 later)
     ]
 
--- where no set holds it, they tell nothing
-pub first_silent : (place : ℕ) (tables : List Link) (q : Board) → HaveOwnSets tables
-    → first_from place tables q ≡ None → first_value (backs_of tables) q ≡ Unknown
+-- where no set holds it, the rest's value is left
+pub first_silent : (counts : Counts) (rest : Value) (place : ℕ) (tables : List Link) (q : Board)
+    → HaveOwnSets tables → first_from place tables q ≡ None
+    → first_value counts rest (backs_of tables) q ≡ rest
 unfolding first_from
-first_silent place [] q own e = none_tell q
-first_silent place (table ∷ tables) q own e =
+first_silent counts rest place [] q own e = none_tell counts rest q
+first_silent counts rest place (table ∷ tables) q own e =
     let each = own_sets table tables own in
     elim (cases_Bool (is_member table.rules.groups q)) [
       | inl t ↦ absurd (
           let here : chosen true place table tables q ≡ None =
           subst (λ (b : Bool). chosen b place table tables q ≡ None) t e in cc)
       | inr f ↦ (
-          let rest : chosen false place table tables q ≡ None =
+          let later : chosen false place table tables q ≡ None =
           subst (λ (b : Bool). chosen b place table tables q ≡ None) f e in
-          front_lacks table tables q each.0 f ∙ first_silent (suc place) tables q each.1 rest)
+          front_lacks counts rest table tables q each.0 f
+          ∙ first_silent counts rest (suc place) tables q each.1 later)
     ]
 
--- the value of an exit behind which no table goes on is that of the exit lines, or unknown
-lines_or : (v value : Value) (before : List Link) (q : Board) → HaveOwnSets before
-    → v ≡ or_else value (first_value (backs_of before) q)
-    → where_unknown value (first_from 0 before q) ≡ None → (v ≡ Unknown → ⊥) → value ≡ v
-lines_or v WhiteWins before q own is gone known = sym is
-lines_or v BlackWins before q own is gone known = sym is
-lines_or v Draw before q own is gone known = sym is
-lines_or v WhiteHolds before q own is gone known = sym is
-lines_or v BlackHolds before q own is gone known = sym is
-lines_or v Unknown before q own is gone known =
-    absurd (known (is ∙ first_silent 0 before q own gone))
-lines_or v (WhiteWinsIn n) before q own is gone known = sym is
-lines_or v (BlackWinsIn n) before q own is gone known = sym is
+-- the value of an exit behind which no table goes on is that of an exit line
+lines_or : (table : Link) (leans : table.leans ≡ true) (before : List Link) (q : Board) (v value : Value)
+    → value_by table.rules q ≡ value → HaveOwnSets before
+    → v ≡ or_else value
+    (first_value (counts_of (backs_of before)) (value_behind table.rules q) (backs_of before) q)
+    → where_unknown value (first_from 0 before q) ≡ None → LinesGive table q v
+lines_or table leans before q v WhiteWins e own is gone = inl (e ∙ sym is)
+lines_or table leans before q v BlackWins e own is gone = inl (e ∙ sym is)
+lines_or table leans before q v Draw e own is gone = inl (e ∙ sym is)
+lines_or table leans before q v WhiteHolds e own is gone = inl (e ∙ sym is)
+lines_or table leans before q v BlackHolds e own is gone = inl (e ∙ sym is)
+lines_or table leans before q v Unknown e own is gone =
+    inr (leans, e, sym (is ∙ first_silent (counts_of (backs_of before))
+    (value_behind table.rules q) 0 before q own gone))
+lines_or table leans before q v (WhiteWinsIn n) e own is gone = inl (e ∙ sym is)
+lines_or table leans before q v (BlackWinsIn n) e own is gone = inl (e ∙ sym is)
 
-by_leaning : (leans : Bool) (rules : RuleLines) (before : List Link) (q : Board) (v : Value)
-    → HaveOwnSets before → v ≡ value_over leans rules (backs_of before) q
-    → where_unknown (value_by rules q) (first_from 0 (leant_on leans before) q) ≡ None
-    → (v ≡ Unknown → ⊥) → value_by rules q ≡ v
-by_leaning true rules before q v own is gone known =
-    lines_or v (value_by rules q) before q own is gone known
-by_leaning false rules before q v own is gone known = sym is
+by_leaning : (before : List Link) (table : Link) (q : Board) (v : Value) (leans : Bool)
+    → table.leans ≡ leans → HaveOwnSets before
+    → v ≡ value_over leans table.rules (backs_of before) q
+    → where_unknown (value_by table.rules q) (first_from 0 (leant_on leans before) q) ≡ None
+    → LinesGive table q v
+by_leaning before table q v true e own is gone =
+    lines_or table e before q v (value_by table.rules q) refl own is gone
+by_leaning before table q v false e own is gone = inl (sym is)
 
 pub by_lines : (before : List Link) (table : Link) (q : Board) (v : Value) → HaveOwnSets before
     → v ≡ value_over table.leans table.rules (backs_of before) q → next_of before table q ≡ None
-    → (v ≡ Unknown → ⊥) → value_by table.rules q ≡ v
-by_lines before table q v own is gone known =
-    by_leaning table.leans table.rules before q v own is gone known
+    → LinesGive table q v
+by_lines before table q v own is gone =
+    by_leaning before table q v table.leans refl own is gone
 
 -- the value of an exit from which a table goes on is what this one tells
 pub by_table : (before : List Link) (table : Link) (q : Board) (v : Value) (next : ℕ × Link)
     → HaveOwnSets before → v ≡ value_over table.leans table.rules (backs_of before) q
-    → GoesOnAt before table q next → v ≡ told_at next.1.back (Some (Num next.1.rules.groups q))
+    → GoesOnAt before table q next
+    → v ≡ told_in (counts_of (backs_of before)) next.1.back (Num next.1.rules.groups q)
 by_table before table q v next own is on =
+    let counts = counts_of (backs_of before) in
+    let rest = value_behind table.rules q in
     is ∙ ap (λ (b : Bool). value_over b table.rules (backs_of before) q) on.leans
-    ∙ ap (λ (w : Value). or_else w (first_value (backs_of before) q)) on.silent
-    ∙ first_tells 0 before q next own on.first
+    ∙ ap (λ (w : Value). or_else w (first_value counts rest (backs_of before) q)) on.silent
+    ∙ first_tells counts rest 0 before q next own on.first
 
 -- where a table tells that a side wins, its code is a win, and where it tells that the side holds
 -- and no more, it is a hold
-codes_are : (side : Colour) (table : Link) → back_codes table.back side ≡ codes_of side table
-codes_are White table = refl
-codes_are Black table = refl
-
 win_is : (c : ℕ) → is_win c ≡ true → (n : ℕ) × (c ≡ 2 + 2 * n)
 win_is c w = elim (code_is c) [
   | none e ↦ absurd (let no : is_win 0 ≡ true = subst (λ k. is_win k ≡ true) e w in cc)
@@ -152,23 +164,45 @@ win_is c w = elim (code_is c) [
   | failure n e ↦ absurd (grind (arith, nat_tests))
 ]
 
-pub good_wins : (side : Colour) (table : Link) (i : ℕ)
-    → class_of (told_at table.back (Some i)) side ≡ Good
-    → (n : ℕ) × (slice_index (codes_of side table) i ≡ 2 + 2 * n)
-good_wins side table i good =
-    win_is (slice_index (codes_of side table) i)
-    (subst (λ (cs : List ℕ). is_win (slice_index cs i) ≡ true) (codes_are side table)
-    (win_told table.back side i good))
+-- the same codes as a table of a chain
+abbrev chained : Link → Codes
+chained table = back_with table.back.groups table.back.white table.back.black
 
-pub safe_holds : (side : Colour) (table : Link) (i : ℕ)
-    → class_of (told_at table.back (Some i)) side ≡ Safe → slice_index (codes_of side table) i ≡ 1
-safe_holds White table i =
+chained_codes : (side : Colour) (table : Link) → back_codes (chained table) side ≡ codes_of side table
+chained_codes White table = refl
+chained_codes Black table = refl
+
+class_told : (counts : Counts) (side : Colour) (table : Link) (i : ℕ) →
+    class_of (told_in counts table.back i) side ≡ class_of (told_at (chained table) (Some i)) side
+class_told counts side table i =
+    let white = slice_index table.back.white i in
+    let black = slice_index table.back.black i in
+    told_class counts white black (pair_value white black) side
+
+pub good_wins : (counts : Counts) (side : Colour) (table : Link) (i : ℕ)
+    → class_of (told_in counts table.back i) side ≡ Good
+    → (n : ℕ) × (slice_index (codes_of side table) i ≡ 2 + 2 * n)
+good_wins counts side table i good =
+    win_is (slice_index (codes_of side table) i)
+    (subst (λ (cs : List ℕ). is_win (slice_index cs i) ≡ true) (chained_codes side table)
+    (win_told (chained table) side i (sym (class_told counts side table i) ∙ good)))
+
+holds_alone : (side : Colour) (table : Link) (i : ℕ)
+    → class_of (told_at (chained table) (Some i)) side ≡ Safe
+    → slice_index (codes_of side table) i ≡ 1
+holds_alone White table i =
     let white = slice_index table.back.white i in
     holds_of_pair_value (λ (v : Value). class_of v White ≡ Safe → white ≡ 1) white
     (slice_index table.back.black i) (λ w safe. absurd (cc)) (λ w safe. absurd (cc))
     (λ w b safe. w) (λ w safe. w) (λ b safe. absurd (cc)) (λ safe. absurd (cc))
-safe_holds Black table i =
+holds_alone Black table i =
     let black = slice_index table.back.black i in
     holds_of_pair_value (λ (v : Value). class_of v Black ≡ Safe → black ≡ 1)
     (slice_index table.back.white i) black (λ w safe. absurd (cc)) (λ w safe. absurd (cc))
     (λ w b safe. b) (λ w safe. absurd (cc)) (λ b safe. b) (λ safe. absurd (cc))
+
+pub safe_holds : (counts : Counts) (side : Colour) (table : Link) (i : ℕ)
+    → class_of (told_in counts table.back i) side ≡ Safe
+    → slice_index (codes_of side table) i ≡ 1
+safe_holds counts side table i safe =
+    holds_alone side table i (sym (class_told counts side table i) ∙ safe)

@@ -11,8 +11,8 @@ use Rattle.frz_graph.specs.EntryCodes.{of_side}
 use Rattle.frz_game.specs.Games.{graph_by}
 use Rattle.frz_table.specs.declared.kind.FileKind.{FileKind}
 use Rattle.frz_table.specs.declared.kind.FileKind.TheVariants.{Plain, Chained, Atlas}
-use Rattle.frz_chain.specs.Books.{Back}
-use Rattle.frz_chain.specs.FileOn.{loaded_back}
+use Rattle.frz_backs.specs.Books.{Back}
+use Rattle.frz_backs.specs.FileOn.{loaded_back}
 use Rattle.frz_chain.specs.declared.back.BackTable.{BackTable}
 use Rattle.frz_backs.specs.Links.{backs_of, value_over}
 use Rattle.frz_backs.specs.Values.{atlas_value}

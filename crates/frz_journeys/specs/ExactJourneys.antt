@@ -1,7 +1,7 @@
 -- Journeys over tables each of which is exact over those before it.
 use Rattle.std.specs.Prelude.{◌≡◌, ℕ, List}
 use Rattle.frz_arena.specs.WayEnds.{Wrong}
-use Rattle.frz_chain.specs.FileOn.{IsExactBack}
+use Rattle.frz_backs.specs.FileOn.{IsExactBack}
 use Rattle.frz_backs.specs.Links.{AreExact, Link, backs_of, value_over}
 use Rattle.frz_journeys.specs.Journeys.{Stage}
 

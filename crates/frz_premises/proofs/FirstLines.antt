@@ -1,31 +1,37 @@
 -- The line that decides a position gives it its value.
-use Rattle.std.proofs.Common.{◌≡◌, ℕ, inl, inr, ◌⊎◌, true, List, Option, Some, None, ap, ◌∙◌, refl}
+use Rattle.std.proofs.Common.{◌≡◌, ℕ, inl, inr, ◌⊎◌, Bool, true, List, Option, Some, None, ap, ◌∙◌, refl}
 use Rattle.std.proofs.lemmas.Bool.{eqb-true, eq-eqb}
 use Rattle.frz_board.specs.Boards.{Board}
 use Rattle.frz_sets.specs.declared.exit.Value.TheVariants.{Unknown}
-use Rattle.frz_sets.specs.Views.{ExitLine}
-use Rattle.frz_exits.specs.Books.{first_value}
-use Rattle.frz_exits.specs.Fitting.{line_at}
-use Rattle.frz_exits.proofs.Lemmas.{IsFirst, first_fits, none_fits}
+use Rattle.frz_sets.specs.Views.{ExitLine, RuleLines}
+use Rattle.frz_backs.specs.Lines.{line_over}
+use Rattle.frz_backs.specs.Links.{Link, backs_of, own_over}
+use Rattle.frz_backs.proofs.Lemmas.{GivesValue, line_gives, no_line_gives}
 use Rattle.frz_premises.specs.Deciding.{is_place, decides}
 
 tested_place_is_it : (i : ℕ) (o : Option ℕ) → is_place i o ≡ true → o ≡ Some i
 tested_place_is_it i None h = absurd (cc)
 tested_place_is_it i (Some k) h = ap Some (eqb-true k i h)
 
--- a line that decides a position is the first that fits it
-pub decides_first : (lines : List ExitLine) (q : Board) (i : ℕ) → decides lines i q ≡ true →
-    (line : ExitLine) × IsFirst lines q i line
-decides_first lines q i h = first_fits lines q i (tested_place_is_it i (line_at lines q) h)
+module _ (leans : Bool) (rules : RuleLines) (links : List Link) (q : Board) where
+  -- a line that decides a position gives its value
+  pub decides_value : (i : ℕ) → decides leans rules links i q ≡ true →
+      (line : ExitLine) × GivesValue rules.exits (own_over leans rules (backs_of links) q) i line
+  decides_value i h =
+      line_gives leans rules (backs_of links) q i
+      (tested_place_is_it i (line_over leans rules (backs_of links) q) h)
 
--- there is none, and the value is unknown, or some line decides it
-pub first_cases : (lines : List ExitLine) (q : Board) → (first_value lines q ≡ Unknown)
-    ⊎ ((i : ℕ) × (line : ExitLine) × (decides lines i q ≡ true) × IsFirst lines q i line)
-first_cases lines q = by_place (line_at lines q) refl
-  where
-    by_place : (o : Option ℕ) → line_at lines q ≡ o → (first_value lines q ≡ Unknown)
-        ⊎ ((i : ℕ) × (line : ExitLine) × (decides lines i q ≡ true) × IsFirst lines q i line)
-    by_place None e = inl (none_fits lines q e)
-    by_place (Some k) e =
-        let w = first_fits lines q k e in
-        inr (k, w.0, ap (is_place k) e ∙ eq-eqb k k refl, w.1)
+  -- there is none, and the value is unknown, or some line decides it
+  pub first_cases : (own_over leans rules (backs_of links) q ≡ Unknown)
+      ⊎ ((i : ℕ) × (line : ExitLine) × (decides leans rules links i q ≡ true)
+      × GivesValue rules.exits (own_over leans rules (backs_of links) q) i line)
+  first_cases = by_place (line_over leans rules (backs_of links) q) refl
+    where
+      by_place : (o : Option ℕ) → line_over leans rules (backs_of links) q ≡ o →
+          (own_over leans rules (backs_of links) q ≡ Unknown)
+          ⊎ ((i : ℕ) × (line : ExitLine) × (decides leans rules links i q ≡ true)
+          × GivesValue rules.exits (own_over leans rules (backs_of links) q) i line)
+      by_place None e = inl (no_line_gives leans rules (backs_of links) q e)
+      by_place (Some k) e =
+          let given = line_gives leans rules (backs_of links) q k e in
+          inr (k, given.0, ap (is_place k) e ∙ eq-eqb k k refl, given.1)

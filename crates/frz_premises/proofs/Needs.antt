@@ -60,17 +60,17 @@ told_need links v qs q h =
       )
     ]
 
-pub believed_needs_belief : (rules : RuleLines) (value : Board → Value) (links : List Link) (i : ℕ)
-    (line : ExitLine) (q : Board) → basis_of rules links i line ≡ Believed q →
-    NeedsBelief rules value links i line q
-believed_needs_belief rules value links i line q h =
+pub believed_needs_belief : (leans : Bool) (rules : RuleLines) (value : Board → Value) (links : List Link) (i : ℕ)
+    (line : ExitLine) (q : Board) → basis_of leans rules links i line ≡ Believed q →
+    NeedsBelief leans rules value links i line q
+believed_needs_belief leans rules value links i line q h =
     let exits = outside_of rules.groups in
     let v = line.value in
-    let qs = decided_by rules.exits i exits in
+    let qs = decided_by leans rules links i exits in
     let told = told_need links v qs q h in
     let found = found_in (none_says links v) (asked_of v qs) q told.0 in
     let asked = of_filter (λ (z : Board). not (men_show v z)) qs q found.0 in
-    let kept = of_filter (decides rules.exits i) exits q asked.0 in
+    let kept = of_filter (decides leans rules links i) exits q asked.0 in
     record {
       is_exit = listed_are_exits rules value q kept.0;
       decided = kept.1;
@@ -111,23 +111,23 @@ told_table links v qs k h =
           (position_from (says_at_each v asked) 0 links) k (sym is ∙ h)) in omega arith)
     ]
 
-by_basis : (rules : RuleLines) (links : List Link) (i : ℕ) (line : ExitLine) (b : Basis) →
-    basis_of rules links i line ≡ b → IsTellable (length links) b
-by_basis rules links i line AsksNothing e = tt
-by_basis rules links i line ByMen e = tt
-by_basis rules links i line (ByTable k) e =
-    told_table links line.value (decided_by rules.exits i (outside_of rules.groups)) k e
-by_basis rules links i line ByTables e = tt
-by_basis rules links i line (Believed q) e =
+by_basis : (leans : Bool) (rules : RuleLines) (links : List Link) (i : ℕ) (line : ExitLine) (b : Basis) →
+    basis_of leans rules links i line ≡ b → IsTellable (length links) b
+by_basis leans rules links i line AsksNothing e = tt
+by_basis leans rules links i line ByMen e = tt
+by_basis leans rules links i line (ByTable k) e =
+    told_table links line.value (decided_by leans rules links i (outside_of rules.groups)) k e
+by_basis leans rules links i line ByTables e = tt
+by_basis leans rules links i line (Believed q) e =
     exit_valid rules (λ q. Unknown) q
-    (believed_needs_belief rules (λ q. Unknown) links i line q e).is_exit
+    (believed_needs_belief leans rules (λ q. Unknown) links i line q e).is_exit
 
-pub all_tellable : (rules : RuleLines) (links : List Link) (tables : ℕ) → length links ≡ tables →
-    All (IsTellable tables) (bases_of rules links)
+pub all_tellable : (leans : Bool) (rules : RuleLines) (links : List Link) (tables : ℕ) → length links ≡ tables →
+    All (IsTellable tables) (bases_of leans rules links)
 unfolding bases_of
-all_tellable rules links tables many =
-    let f : ℕ × ExitLine → Basis = λ e. basis_of rules links e.0 e.1 in
+all_tellable leans rules links tables many =
+    let f : ℕ × ExitLine → Basis = λ e. basis_of leans rules links e.0 e.1 in
     All-map (IsTellable tables) f (enumerate_from 0 rules.exits)
     (λ k d l. (
     let e = get_or (enumerate_from 0 rules.exits) k d in
-    subst (λ (n : ℕ). IsTellable n (f e)) many (by_basis rules links e.0 e.1 (f e) refl)))
+    subst (λ (n : ℕ). IsTellable n (f e)) many (by_basis leans rules links e.0 e.1 (f e) refl)))

@@ -1,5 +1,5 @@
 -- What an exact table says of a position is true, if its own exits are true.
-use Rattle.std.proofs.Common.{◌≡◌, ◌≤◌, ◌+◌, ◌*◌, ℕ, zero, suc, inl, inr, Bool, true, false, not, ◌||◌, List, [], ◌∷◌, ◌++◌, All, Some, refl, sym, subst, ap, ◌∙◌, arith}
+use Rattle.std.proofs.Common.{◌≡◌, ◌≤◌, ◌+◌, ◌*◌, ℕ, zero, suc, inl, inr, Bool, true, false, not, ◌&&◌, ◌||◌, List, [], ◌∷◌, ◌++◌, All, Some, refl, sym, subst, ap, ◌∙◌, arith}
 use Rattle.std.specs.Prelude.{slice_get, slice_index, ◌==◌, nat_le}
 use Rattle.std.specs.List.{list_any}
 use Rattle.std.proofs.lemmas.Bool.{and_parts, or_cases, or_parts, not-true, eqb-true, leb-true}
@@ -29,10 +29,10 @@ use Rattle.frz_game.specs.Values.{AreTrueExits, IsTrueValue}
 use Rattle.frz_game.proofs.Lemmas.{bound_means, stored_bound}
 use Rattle.frz_backs.specs.Books.{Back}
 use Rattle.frz_backs.specs.FileOn.{IsExactBack}
-use Rattle.frz_backs.specs.Links.{Link, value_over, AreExactOver, AreExact, AreTrueLines}
-use Rattle.frz_backs.proofs.Lemmas.{TellsTrue, link_true, number_inside, number_outside, over_true}
-use Rattle.frz_premises.specs.Saying.{codes_say, counts_wins, holds, is_uncounted, says_as_much, says_at, wins_within}
-use Rattle.frz_premises.proofs.FirstLines.{first_cases}
+use Rattle.frz_backs.specs.Counts.{lines_count}
+use Rattle.frz_backs.specs.Links.{AreExact, AreExactOver, AreTrueLines, AreTrueLinesOver, Link, own_over, value_over}
+use Rattle.frz_backs.proofs.Lemmas.{AllTellTrue, lines_numbered, link_exits_true, link_true, none_tells, number_inside, number_outside}
+use Rattle.frz_premises.specs.Saying.{codes_say, counts_wins, holds, says_as_much, says_at, wins_within}
 
 -- bounds by their codes
 no_win_of_failure : (m code : ℕ) → code ≡ code_of (Fails m) → is_win code ≡ true → ⊥
@@ -72,46 +72,12 @@ module _ (rules : RuleLines) (value : Board → Value) (exits : AreTrueExits rul
         | inr win ↦ absurd (no_win_of_failure m code e win)
       ]
 
--- each winning line of a text without uncounted ones gives its plies
-winning_value_is_numbered : (v : Value) (side : Colour) → is_uncounted v side ≡ false
-    → class_of v side ≡ Good →
-    is_numbered v ≡ true
-winning_value_is_numbered WhiteWins White u g = absurd (cc)
-winning_value_is_numbered WhiteWins Black u g = absurd (cc)
-winning_value_is_numbered BlackWins White u g = absurd (cc)
-winning_value_is_numbered BlackWins Black u g = absurd (cc)
-winning_value_is_numbered Draw side u g = absurd (cc)
-winning_value_is_numbered WhiteHolds White u g = absurd (cc)
-winning_value_is_numbered WhiteHolds Black u g = absurd (cc)
-winning_value_is_numbered BlackHolds White u g = absurd (cc)
-winning_value_is_numbered BlackHolds Black u g = absurd (cc)
-winning_value_is_numbered Unknown side u g = absurd (cc)
-winning_value_is_numbered (WhiteWinsIn n) side u g = refl
-winning_value_is_numbered (BlackWinsIn n) side u g = refl
-
-none_passes_at_place : (test : ExitLine → Bool) (lines : List ExitLine) (i : ℕ) (line : ExitLine) →
-    list_any test lines ≡ false → slice_get lines i ≡ Some line → test line ≡ false
-none_passes_at_place test [] i line h e = absurd (cc)
-none_passes_at_place test (x ∷ lines) zero line h e =
-    let same : x ≡ line = cc in
-    sym (ap test same) ∙ (or_parts (test x) (list_any test lines) h).0
-none_passes_at_place test (x ∷ lines) (suc i) line h e =
-    none_passes_at_place test lines i line (or_parts (test x) (list_any test lines) h).1 e
-
+-- the wins of a table that leans on no other give their plies, where its lines do
 pub numbered_by : (leans : Bool) (rules : RuleLines) (before : List Back) (side : Colour) →
-    not (leans || list_any (λ line. is_uncounted line.value side) rules.exits) ≡ true →
+    (not leans && lines_count side rules.exits) ≡ true →
     AllNumbered (game_of rules (value_over leans rules before)) side
 numbered_by true rules before side h = absurd (cc)
-numbered_by false rules before side h = λ q x good.
-    (let none = not-true (list_any (λ line. is_uncounted line.value side) rules.exits) h in
-    elim (first_cases rules.exits q) [
-      | inl unknown ↦ absurd (let e = sym (ap (λ v. class_of v side) unknown) ∙ good in cc)
-      | inr (i, line, decides, first) ↦ (
-          let u = none_passes_at_place (λ l. is_uncounted l.value side) rules.exits i line none
-          first.there in
-          let g = sym (ap (λ v. class_of v side) first.value) ∙ good in
-          ap is_numbered first.value ∙ winning_value_is_numbered line.value side u g)
-    ])
+numbered_by false rules before side h = λ q x good. lines_numbered rules side h q good
 
 -- what the table says of a position is true there
 abbrev pub Proves : Link → Type 0
@@ -173,30 +139,23 @@ module _ (link : Link) (value : Board → Value)
           absurd (let none = sym (ap (says_at v link)
           (number_outside link.rules link.back exact.set q e)) ∙ h in cc)
 
-exits_true : (leans : Bool) (rules : RuleLines) (before : List Back) → All TellsTrue before →
-    AreTrueExits rules (value_by rules) → AreTrueExits rules (value_over leans rules before)
-exits_true true rules before told own = over_true rules before told own
-exits_true false rules before told own = own
-
 pub link_proves : (link : Link) (before : List Back) →
     IsExactBack link.rules (value_over link.leans link.rules before) link.back →
-    All TellsTrue before → AreTrueExits link.rules (value_by link.rules) → Proves link
+    AllTellTrue before → AreTrueExits link.rules (own_over link.leans link.rules before) →
+    Proves link
 link_proves link before exact told own v q h =
     proves_at link (value_over link.leans link.rules before) exact
-    (exits_true link.leans link.rules before told own)
+    (link_exits_true link.leans link.rules before told own)
     (λ side c. numbered_by link.leans link.rules before side c) q v h
 
-each_proves : (before : List Back) (links : List Link) → All TellsTrue before →
-    AreExactOver before links → AreTrueLines links → All Proves links
-unfolding AreExactOver
+each_proves : (before : List Back) (links : List Link) → AllTellTrue before →
+    AreExactOver before links → AreTrueLinesOver before links → All Proves links
+unfolding AreExactOver AreTrueLinesOver
 each_proves before [] told exact own = All-nil Proves
 each_proves before (link ∷ links) told exact own =
-    let Lines : Link → Type 0 = λ l. AreTrueExits l.rules (value_by l.rules) in
-    let mine = All-head Lines link links own in
-    All-cons Proves link links (link_proves link before exact.0 told mine)
-    (each_proves (before ++ (link.back ∷ [])) links
-    (All-push TellsTrue before link.back told (link_true link before exact.0 told mine)) exact.1
-    (All-tail Lines link links own))
+    All-cons Proves link links (link_proves link before exact.0 told own.0)
+    (each_proves (before ++ (link.back ∷ [])) links (link_true link before exact.0 told own.0)
+    exact.1 own.1)
 
 pub all_prove : (links : List Link) → AreExact links → AreTrueLines links → All Proves links
-all_prove links exact own = each_proves [] links (All-nil TellsTrue) exact own
+all_prove links exact own = each_proves [] links none_tells exact own

@@ -15,9 +15,8 @@ use Rattle.frz_arena.specs.Exits.{IsExit}
 use Rattle.frz_arena.proofs.Lemmas.{none_in_empty}
 use Rattle.frz_game.specs.Games.{game_of}
 use Rattle.frz_game.specs.Values.{AreTrueExits, IsTrueValue}
-use Rattle.frz_backs.specs.Links.{Link, AreExact, AreTrueLines, backs_of}
-use Rattle.frz_backs.specs.Values.{atlas_value}
-use Rattle.frz_backs.proofs.Lemmas.{exits_over_true}
+use Rattle.frz_backs.specs.Links.{AreExact, AreTrueLines, Link, backs_of, own_over, value_over}
+use Rattle.frz_backs.proofs.Lemmas.{link_exits_true, tables_true}
 use Rattle.frz_premises.specs.declared.basis.Basis.{Basis}
 use Rattle.frz_premises.specs.declared.basis.Basis.TheVariants.{Believed}
 use Rattle.frz_exits.specs.Values.{is_unknown}
@@ -88,14 +87,14 @@ shown_line_is_true rules value links proves v q x qs i h =
       ]
     ]
 
-pub line_true : (rules : RuleLines) (value : Board → Value) (links : List Link) →
+pub line_true : (leans : Bool) (rules : RuleLines) (value : Board → Value) (links : List Link) →
     All Proves links → (i : ℕ) (line : ExitLine) → slice_get rules.exits i ≡ Some line →
-    is_believed (basis_of rules links i line) ≡ false → (q : Board) →
-    IsExit (game_of rules value) q → decides rules.exits i q ≡ true → IsTrueValue line.value q
-line_true rules value links proves i line there h q x d =
+    is_believed (basis_of leans rules links i line) ≡ false → (q : Board) →
+    IsExit (game_of rules value) q → decides leans rules links i q ≡ true → IsTrueValue line.value q
+line_true leans rules value links proves i line there h q x d =
     shown_line_is_true rules value links proves line.value q x
-    (decided_by rules.exits i (outside_of rules.groups))
-    (in_filter (decides rules.exits i) (outside_of rules.groups) q
+    (decided_by leans rules links i (outside_of rules.groups))
+    (in_filter (decides leans rules links i) (outside_of rules.groups) q
     (exits_are_listed rules value q x) d) h
 
 -- none of several is counted
@@ -123,24 +122,24 @@ none_counted p f n (x ∷ lines) (suc i) j line e h there =
     let parts = counts_none p (f (n, x)) (map f (enumerate_from (n + 1) lines)) h in
     none_counted p f (n + 1) lines i j line (omega arith) parts.1 there
 
-not_believed : (rules : RuleLines) (links : List Link) (i : ℕ) (line : ExitLine) →
-    believed_of rules links ≡ 0 → slice_get rules.exits i ≡ Some line →
-    is_believed (basis_of rules links i line) ≡ false
+not_believed : (leans : Bool) (rules : RuleLines) (links : List Link) (i : ℕ) (line : ExitLine) →
+    believed_of leans rules links ≡ 0 → slice_get rules.exits i ≡ Some line →
+    is_believed (basis_of leans rules links i line) ≡ false
 unfolding bases_of
-not_believed rules links i line h there =
-    none_counted is_believed (λ e. basis_of rules links e.0 e.1) 0 rules.exits i i line
+not_believed leans rules links i line h there =
+    none_counted is_believed (λ e. basis_of leans rules links e.0 e.1) 0 rules.exits i i line
     (omega arith) h there
 
 -- where no line is believed, what is believed holds
-pub none_holds : (rules : RuleLines) (links : List Link) → believed_of rules links ≡ 0 →
-    BeliefHolds rules links
-none_holds rules links none i line q there h x d =
-    absurd (let no : true ≡ false = sym h ∙ not_believed rules links i line none there in cc)
+pub none_holds : (leans : Bool) (rules : RuleLines) (links : List Link) → believed_of leans rules links ≡ 0 →
+    BeliefHolds leans rules links
+none_holds leans rules links none i line q there h x d =
+    absurd (let no : true ≡ false = sym h ∙ not_believed leans rules links i line none there in cc)
 
 -- where what is believed holds, the exits are true
-pub exits_true_by : (rules : RuleLines) (links : List Link) → All Proves links →
-    BeliefHolds rules links → AreTrueExits rules (value_by rules)
-exits_true_by rules links proves holds p m member legal outside =
+pub exits_true_by : (leans : Bool) (rules : RuleLines) (links : List Link) → All Proves links →
+    BeliefHolds leans rules links → AreTrueExits rules (own_over leans rules (backs_of links))
+exits_true_by leans rules links proves holds p m member legal outside =
     let q = after p m in
     let x : IsExit (game_of rules (value_by rules)) q = record {
       from = p;
@@ -150,22 +149,25 @@ exits_true_by rules links proves holds p m member legal outside =
       ends = refl;
       outside = outside;
     } in
-    elim (first_cases rules.exits q) [
+    elim (first_cases leans rules links q) [
       | inl unknown ↦ subst (λ (v : Value). IsTrueValue v q) (sym unknown) tt
-      | inr (i, line, d, first) ↦ subst (λ (v : Value). IsTrueValue v q) (sym first.value)
-          (elim (cases_Bool (is_believed (basis_of rules links i line))) [
-            | inl believed ↦ holds i line q first.there believed x d
-            | inr shown ↦ line_true rules (value_by rules) links proves i line first.there shown q x d
+      | inr (i, line, d, given) ↦ subst (λ (v : Value). IsTrueValue v q) (sym given.value)
+          (elim (cases_Bool (is_believed (basis_of leans rules links i line))) [
+            | inl believed ↦ holds i line q given.there believed x d
+            | inr shown ↦ line_true leans rules (value_by rules) links proves i line given.there
+                shown q x d
           ])
     ]
 
-pub true_where : (rules : RuleLines) (links : List Link) → AreExact links →
-    AreTrueLines links → BeliefHolds rules links → AreTrueExits rules (value_by rules)
-true_where rules links exact own holds =
-    exits_true_by rules links (all_prove links exact own) holds
+pub true_where : (leans : Bool) (rules : RuleLines) (links : List Link) → AreExact links →
+    AreTrueLines links → BeliefHolds leans rules links →
+    AreTrueExits rules (own_over leans rules (backs_of links))
+true_where leans rules links exact own holds =
+    exits_true_by leans rules links (all_prove links exact own) holds
 
-pub true_over : (rules : RuleLines) (links : List Link) → AreExact links →
-    AreTrueLines links → BeliefHolds rules links →
-    AreTrueExits rules (atlas_value rules (backs_of links))
-true_over rules links exact own holds =
-    exits_over_true rules links exact own (true_where rules links exact own holds)
+pub true_over : (leans : Bool) (rules : RuleLines) (links : List Link) → AreExact links →
+    AreTrueLines links → BeliefHolds leans rules links →
+    AreTrueExits rules (value_over leans rules (backs_of links))
+true_over leans rules links exact own holds =
+    link_exits_true leans rules (backs_of links) (tables_true links exact own)
+    (true_where leans rules links exact own holds)

@@ -18,19 +18,20 @@ use Rattle.frz_sets.specs.declared.exit.Value.{Value}
 use Rattle.frz_sets.specs.declared.exit.Value.TheVariants.{Unknown}
 use Rattle.frz_sets.specs.Views.{ExitLine, RuleLines}
 use Rattle.frz_exits.specs.Values.{is_unknown}
-use Rattle.frz_backs.specs.Links.{Link}
+use Rattle.frz_backs.specs.Links.{Link, backs_of}
 use Rattle.frz_backs.specs.BackTable.{BackTable}
 use Rattle.frz_premises.specs.declared.basis.Basis.{Basis}
 use Rattle.frz_premises.specs.declared.trial.Trial.{Trial}
 use Rattle.frz_premises.specs.declared.basis.Basis.TheVariants.{AsksNothing, ByMen}
 use Rattle.frz_premises.specs.Bases.{asked_of, bases_of, basis_at, basis_of, by_asked, by_need, by_tables}
-use Rattle.frz_exits.specs.Fitting.{line_at}
+use Rattle.frz_backs.specs.Lines.{line_over}
+use Rattle.frz_backs.proofs.Lemmas.{line_gives}
+use Rattle.std.proofs.lemmas.Option.{slice_get_within}
 use Rattle.frz_premises.specs.Deciding.{decided_by, decides, is_place}
 use Rattle.frz_backs.specs.Loaded.{link_loaded}
 use Rattle.frz_premises.specs.Men.{men_show}
 use Rattle.frz_premises.specs.Saying.{none_says, says_as_much, says_at_each}
 use Rattle.frz_premises.specs.Trials.{AreTried, IsHeard, IsTried, boards_after, is_outside, is_some_there}
-use Rattle.frz_premises.proofs.FirstLines.{decides_first}
 
 some_there_with_more : (qs : List Board) (q : Board) → is_some_there (qs ++ q ∷ []) ≡ true
 some_there_with_more [] q = refl
@@ -324,88 +325,84 @@ basis_unknown links line [] unknown = refl
 basis_unknown links line (q ∷ qs) unknown = rw unknown refl
 
 -- the lines after one more exit
-more_decided : (lines : List ExitLine) (k : ℕ) (qs : List Board) (q : Board) →
-    decided_by lines k (qs ++ q ∷ []) ≡ decided_by lines k qs ++ decided_by lines k (q ∷ [])
-more_decided lines k qs q = filter-append (decides lines k) qs (q ∷ [])
+module _ (leans : Bool) (rules : RuleLines) (links : List Link) where
+  more_decided : (k : ℕ) (qs : List Board) (q : Board) →
+      decided_by leans rules links k (qs ++ q ∷ [])
+      ≡ decided_by leans rules links k qs ++ decided_by leans rules links k (q ∷ [])
+  more_decided k qs q = filter-append (decides leans rules links k) qs (q ∷ [])
 
-this_decides : (lines : List ExitLine) (i : ℕ) (qs : List Board) (q : Board) →
-    Some i ≡ line_at lines q →
-    decided_by lines i (qs ++ q ∷ []) ≡ decided_by lines i qs ++ q ∷ []
-this_decides lines i qs q at =
-    let d : decides lines i q ≡ true = sym (ap (is_place i) at) ∙ eq-eqb i i refl in
-    more_decided lines i qs q
-    ∙ ap (λ (l : List Board). decided_by lines i qs ++ l) (rw d refl)
+  this_decides : (i : ℕ) (qs : List Board) (q : Board) →
+      Some i ≡ line_over leans rules (backs_of links) q →
+      decided_by leans rules links i (qs ++ q ∷ []) ≡ decided_by leans rules links i qs ++ q ∷ []
+  this_decides i qs q at =
+      let d : decides leans rules links i q ≡ true = sym (ap (is_place i) at) ∙ eq-eqb i i refl in
+      more_decided i qs q
+      ∙ ap (λ (l : List Board). decided_by leans rules links i qs ++ l) (rw d refl)
 
-others_stay : (lines : List ExitLine) (k : ℕ) (qs : List Board) (q : Board) →
-    decides lines k q ≡ false → decided_by lines k qs ≡ decided_by lines k (qs ++ q ∷ [])
-others_stay lines k qs q d =
-    sym (more_decided lines k qs q
-    ∙ ap (λ (l : List Board). decided_by lines k qs ++ l) (rw d refl)
-    ∙ append-nil (decided_by lines k qs))
+  others_stay : (k : ℕ) (qs : List Board) (q : Board) →
+      decides leans rules links k q ≡ false →
+      decided_by leans rules links k qs ≡ decided_by leans rules links k (qs ++ q ∷ [])
+  others_stay k qs q d =
+      sym (more_decided k qs q
+      ∙ ap (λ (l : List Board). decided_by leans rules links k qs ++ l) (rw d refl)
+      ∙ append-nil (decided_by leans rules links k qs))
 
--- the place of the line that decides it is one of a line
-pub place_below : (lines : List ExitLine) (q : Board) (i : ℕ) → Some i ≡ line_at lines q →
-    (line : ExitLine) × (i < length lines)
-place_below lines q i at =
-    let first = decides_first lines q i (sym (ap (is_place i) at) ∙ eq-eqb i i refl) in
-    (first.0, found_is_below_length lines i first.0 first.1.there)
-  where
-    found_is_below_length : (ls : List ExitLine) (k : ℕ) (line : ExitLine)
-        → slice_get ls k ≡ Some line →
-        k < length ls
-    found_is_below_length [] k line e = absurd (cc)
-    found_is_below_length (x ∷ ls) zero line e = omega arith
-    found_is_below_length (x ∷ ls) (suc k) line e =
-        let l = found_is_below_length ls k line e in omega arith
+  -- the place of the line that decides it is one of a line
+  pub place_below : (q : Board) (i : ℕ) → Some i ≡ line_over leans rules (backs_of links) q →
+      (line : ExitLine) × (i < length rules.exits)
+  place_below q i at =
+      let given = line_gives leans rules (backs_of links) q i (sym at) in
+      (given.0, slice_get_within rules.exits i given.0 given.1.there)
 
-module _ (rules : RuleLines) (links : List Link) (qs : List Board) (q : Board)
-    (trials : List Trial) (tried : AreTried rules links qs trials) where
+module _ (leans : Bool) (rules : RuleLines) (links : List Link) (qs : List Board) (q : Board)
+    (trials : List Trial) (tried : AreTried leans rules links qs trials) where
   -- no line decides it
-  pub none_decides : None ≡ line_at rules.exits q → AreTried rules links (qs ++ q ∷ []) trials
+  pub none_decides : None ≡ line_over leans rules (backs_of links) q →
+      AreTried leans rules links (qs ++ q ∷ []) trials
   none_decides at = record {
     many = tried.many;
     each = λ k line trial l.
         subst (λ (l : List Board). IsTried links (get_or rules.exits k line) l
         (get_or trials k trial))
-        (others_stay rules.exits k qs q (sym (ap (is_place k) at)))
+        (others_stay leans rules links k qs q (sym (ap (is_place k) at)))
         (tried.each k line trial l);
   }
 
   -- the line at this place decides it
-  module _ (i : ℕ) (at : Some i ≡ line_at rules.exits q) (t : Trial)
+  module _ (i : ℕ) (at : Some i ≡ line_over leans rules (backs_of links) q) (t : Trial)
       (here : (line : ExitLine) →
       IsTried links (get_or rules.exits i line)
-      (decided_by rules.exits i qs ++ q ∷ []) t) where
-    no_other_line_decides : (k : ℕ) → k ≢ i → decides rules.exits k q ≡ false
+      (decided_by leans rules links i qs ++ q ∷ []) t) where
+    no_other_line_decides : (k : ℕ) → k ≢ i → decides leans rules links k q ≡ false
     no_other_line_decides k apart = sym (ap (is_place k) at) ∙ ne_eqb i k (λ e. apart (sym e))
 
     by_place : (k : ℕ) (line : ExitLine) (trial : Trial) → k < length (set trials i t) →
         (k ≡ i) ⊎ (k ≡ i → ⊥) →
         IsTried links (get_or rules.exits k line)
-        (decided_by rules.exits k (qs ++ q ∷ [])) (get_or (set trials i t) k trial)
+        (decided_by leans rules links k (qs ++ q ∷ [])) (get_or (set trials i t) k trial)
     by_place k line trial l (inl same) =
         let P : ℕ → Type 0 = λ j. IsTried links (get_or rules.exits j line)
-        (decided_by rules.exits j (qs ++ q ∷ [])) (get_or (set trials i t) j trial) in
+        (decided_by leans rules links j (qs ++ q ∷ [])) (get_or (set trials i t) j trial) in
         let many = length-set trials i t in
         let inside : i < length trials = omega arith in
         subst P (sym same)
         (subst (λ (x : Trial). IsTried links (get_or rules.exits i line)
-        (decided_by rules.exits i (qs ++ q ∷ [])) x)
+        (decided_by leans rules links i (qs ++ q ∷ [])) x)
         (sym (get_or-set_same trials i t trial inside))
         (subst (λ (ds : List Board). IsTried links (get_or rules.exits i line) ds t)
-        (sym (this_decides rules.exits i qs q at)) (here line)))
+        (sym (this_decides leans rules links i qs q at)) (here line)))
     by_place k line trial l (inr apart) =
         let many = length-set trials i t in
         let inside : k < length trials = omega arith in
         subst (λ (x : Trial). IsTried links (get_or rules.exits k line)
-        (decided_by rules.exits k (qs ++ q ∷ [])) x)
+        (decided_by leans rules links k (qs ++ q ∷ [])) x)
         (sym (get_or-set_other trials i k t trial apart))
         (subst (λ (ds : List Board). IsTried links (get_or rules.exits k line) ds
         (get_or trials k trial))
-        (others_stay rules.exits k qs q (no_other_line_decides k apart))
+        (others_stay leans rules links k qs q (no_other_line_decides k apart))
         (tried.each k line trial inside))
 
-    pub one_decides : AreTried rules links (qs ++ q ∷ []) (set trials i t)
+    pub one_decides : AreTried leans rules links (qs ++ q ∷ []) (set trials i t)
     one_decides = record {
       many = length-set trials i t ∙ tried.many;
       each = λ k line trial l. by_place k line trial l (cases_eq k i);
@@ -453,12 +450,12 @@ begun_more P lines trials i line t within is many before this k l x less =
           (subst (λ (z : ExitLine). P z t) (get_or_read lines i line within is l) this)))
     ]
 
-pub all_begun : (lines : List ExitLine) (rules : RuleLines) (links : List Link)
+pub all_begun : (lines : List ExitLine) (leans : Bool) (rules : RuleLines) (links : List Link)
     (trials : List Trial) → rules.exits ≡ lines → length trials ≡ length lines →
     ((k : ℕ) (line : ExitLine) (trial : Trial) → k < length lines →
     IsTried links (get_or lines k line) [] (get_or trials k trial)) →
-    AreTried rules links [] trials
-all_begun lines rules links trials same_lines many each =
+    AreTried leans rules links [] trials
+all_begun lines leans rules links trials same_lines many each =
     let long = ap length same_lines in
     record {
       many = many ∙ sym long;
@@ -483,14 +480,14 @@ based_more F bases i b many before this k x less =
 abbrev no_line : ExitLine
 no_line = record { value = Unknown; conds = [] }
 
-pub all_based : (rules : RuleLines) (links : List Link) (bases : List Basis) →
+pub all_based : (leans : Bool) (rules : RuleLines) (links : List Link) (bases : List Basis) →
     length bases ≡ length rules.exits →
     ((k : ℕ) (line : ExitLine) (x : Basis) → k < length rules.exits →
-    get_or bases k x ≡ basis_of rules links k (get_or rules.exits k line)) →
-    bases ≡ bases_of rules links
+    get_or bases k x ≡ basis_of leans rules links k (get_or rules.exits k line)) →
+    bases ≡ bases_of leans rules links
 unfolding bases_of
-all_based rules links bases many each =
-    let f : ℕ × ExitLine → Basis = λ e. basis_of rules links e.0 e.1 in
+all_based leans rules links bases many each =
+    let f : ℕ × ExitLine → Basis = λ e. basis_of leans rules links e.0 e.1 in
     let numbered = enumerate_from 0 rules.exits in
     let long : length numbered ≡ length rules.exits = length-enumerate_from 0 rules.exits in
     same_lists bases (map f numbered) (many ∙ sym (length-map numbered f ∙ long))
@@ -500,14 +497,14 @@ all_based rules links bases many each =
     each k no_line d low
     ∙ sym (get_or-map f numbered k (0, no_line) d inside
     ∙ ap f (get_or-enumerate_from 0 rules.exits k (0, no_line) low)
-    ∙ ap (λ (j : ℕ). basis_of rules links j (get_or rules.exits k no_line)) (zero-add k))))
+    ∙ ap (λ (j : ℕ). basis_of leans rules links j (get_or rules.exits k no_line)) (zero-add k))))
 
 -- there is one for each line
-pub many_bases : (rules : RuleLines) (links : List Link) →
-    length (bases_of rules links) ≡ length rules.exits
+pub many_bases : (leans : Bool) (rules : RuleLines) (links : List Link) →
+    length (bases_of leans rules links) ≡ length rules.exits
 unfolding bases_of
-many_bases rules links =
-    let f : ℕ × ExitLine → Basis = λ e. basis_of rules links e.0 e.1 in
+many_bases leans rules links =
+    let f : ℕ × ExitLine → Basis = λ e. basis_of leans rules links e.0 e.1 in
     length-map (enumerate_from 0 rules.exits) f ∙ length-enumerate_from 0 rules.exits
 
 -- the value of a result, weakened

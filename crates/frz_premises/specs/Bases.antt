@@ -41,14 +41,15 @@ basis_at links v [] = AsksNothing
 basis_at links v (q ∷ qs) =
     if is_unknown v then AsksNothing else by_asked links v (asked_of v (q ∷ qs))
 
--- what the line at this place of rules rests on, with these tables
-abbrev pub basis_of : RuleLines → List Link → ℕ → ExitLine → Basis
-basis_of rules links i line =
-    basis_at links line.value (decided_by rules.exits i (outside_of rules.groups))
+-- what the line at this place of rules rests on, with these tables, on which its text leans or not
+abbrev pub basis_of : Bool → RuleLines → List Link → ℕ → ExitLine → Basis
+basis_of leans rules links i line =
+    basis_at links line.value (decided_by leans rules links i (outside_of rules.groups))
 
 -- what each exit line of the rules rests on, in the order of the text
-unfoldable pub bases_of : RuleLines → List Link → List Basis
-bases_of rules links = map (λ e. basis_of rules links e.0 e.1) (enumerate_from 0 rules.exits)
+unfoldable pub bases_of : Bool → RuleLines → List Link → List Basis
+bases_of leans rules links =
+    map (λ e. basis_of leans rules links e.0 e.1) (enumerate_from 0 rules.exits)
 
 abbrev pub is_believed : Basis → Bool
 is_believed AsksNothing = false
@@ -58,5 +59,5 @@ is_believed ByTables = false
 is_believed (Believed q) = true
 
 -- how many exit lines are believed
-abbrev pub believed_of : RuleLines → List Link → ℕ
-believed_of rules links = count_by is_believed (bases_of rules links)
+abbrev pub believed_of : Bool → RuleLines → List Link → ℕ
+believed_of leans rules links = count_by is_believed (bases_of leans rules links)

@@ -1,5 +1,5 @@
 -- An exit at which a line needs belief.
-use Rattle.std.specs.Prelude.{◌≡◌, ◌<◌, ℕ, true, false, List, ⊤}
+use Rattle.std.specs.Prelude.{◌≡◌, ◌<◌, ℕ, Bool, true, false, List, ⊤}
 use Rattle.std.specs.List.{list_any}
 use Rattle.frz_board.specs.Boards.{Board}
 use Rattle.frz_fide.specs.Valid.{IsValid}
@@ -17,10 +17,10 @@ use Rattle.frz_premises.specs.Saying.{says_as_much}
 
 -- the position is one legal move outside the set, and the line decides it; neither the men there nor
 -- a table show what the line says of it
-pub record NeedsBelief (rules : RuleLines) (value : Board → Value) (links : List Link) (i : ℕ)
-    (line : ExitLine) (q : Board) : Type 0 where
+pub record NeedsBelief (leans : Bool) (rules : RuleLines) (value : Board → Value)
+    (links : List Link) (i : ℕ) (line : ExitLine) (q : Board) : Type 0 where
   pub is_exit : IsExit (game_of rules value) q
-  pub decided : decides rules.exits i q ≡ true
+  pub decided : decides leans rules links i q ≡ true
   pub known : is_unknown line.value ≡ false
   pub asked : men_show line.value q ≡ false
   pub none : list_any (λ link. says_as_much line.value link q) links ≡ false

@@ -1,5 +1,5 @@
 -- What each word on an exit line says of it.
-use Rattle.std.specs.Prelude.{◌≡◌, ◌⊎◌, ℕ, true, List, Some, slice_get}
+use Rattle.std.specs.Prelude.{◌≡◌, ◌⊎◌, ℕ, Bool, true, List, Some, slice_get}
 use Rattle.std.specs.List.{list_any}
 use Rattle.frz_board.specs.Boards.{Board}
 use Rattle.frz_sets.specs.Views.{ExitLine, RuleLines}
@@ -16,28 +16,29 @@ use Rattle.frz_premises.specs.Needs.{NeedsBelief}
 use Rattle.frz_premises.specs.Saying.{says_as_much}
 
 -- the position is one legal move outside the set, and the line at this place decides it
-pub record IsDecided (rules : RuleLines) (i : ℕ) (q : Board) : Type 0 where
+pub record IsDecided (leans : Bool) (rules : RuleLines) (links : List Link) (i : ℕ) (q : Board) :
+    Type 0 where
   pub is_exit : IsExit (game_of rules (value_by rules)) q
-  pub decided : decides rules.exits i q ≡ true
+  pub decided : decides leans rules links i q ≡ true
 
 -- what the line at this place of rules rests on, with these tables
-pub data RestsOn (rules : RuleLines) (links : List Link) (i : ℕ) (line : ExitLine) :
-    Basis → Type 0 where
+pub data RestsOn (leans : Bool) (rules : RuleLines) (links : List Link) (i : ℕ)
+    (line : ExitLine) : Basis → Type 0 where
   -- it decides no exit, or its value is unknown
-  asks_nothing : ((q : Board) → IsDecided rules i q → is_unknown line.value ≡ true) →
-      RestsOn rules links i line AsksNothing
+  asks_nothing : ((q : Board) → IsDecided leans rules links i q → is_unknown line.value ≡ true) →
+      RestsOn leans rules links i line AsksNothing
   -- at each exit that it decides the men show its value
-  by_men : ((q : Board) → IsDecided rules i q → men_show line.value q ≡ true) →
-      RestsOn rules links i line ByMen
+  by_men : ((q : Board) → IsDecided leans rules links i q → men_show line.value q ≡ true) →
+      RestsOn leans rules links i line ByMen
   -- at each exit that it decides the men show its value, or the table at place k says as much
   by_table : (k : ℕ) (link : Link) → slice_get links k ≡ Some link →
-      ((q : Board) → IsDecided rules i q →
+      ((q : Board) → IsDecided leans rules links i q →
       (men_show line.value q ≡ true) ⊎ (says_as_much line.value link q ≡ true)) →
-      RestsOn rules links i line (ByTable k)
+      RestsOn leans rules links i line (ByTable k)
   -- at each exit that it decides the men show its value, or some table says as much
-  by_tables : ((q : Board) → IsDecided rules i q → (men_show line.value q ≡ true)
+  by_tables : ((q : Board) → IsDecided leans rules links i q → (men_show line.value q ≡ true)
       ⊎ (list_any (λ link. says_as_much line.value link q) links ≡ true)) →
-      RestsOn rules links i line ByTables
+      RestsOn leans rules links i line ByTables
   -- the position needs belief: the line decides it, and neither the men nor a table show its value
-  believed : (q : Board) → NeedsBelief rules (value_by rules) links i line q →
-      RestsOn rules links i line (Believed q)
+  believed : (q : Board) → NeedsBelief leans rules (value_by rules) links i line q →
+      RestsOn leans rules links i line (Believed q)

@@ -8,26 +8,13 @@ use Rattle.frz_sets.specs.declared.exit.Value.{Value}
 use Rattle.frz_sets.specs.declared.exit.Value.TheVariants.{WhiteWins, BlackWins, Draw, WhiteHolds, BlackHolds, Unknown, WhiteWinsIn, BlackWinsIn}
 use Rattle.frz_index.specs.Membership.{number_of}
 use Rattle.frz_arena.specs.Codes.{is_win}
+use Rattle.frz_backs.specs.Counts.{lines_count}
 use Rattle.frz_backs.specs.Links.{Link}
-
--- the value says that the side wins, but not in how many plies
-abbrev pub is_uncounted : Value → Colour → Bool
-is_uncounted WhiteWins White = true
-is_uncounted WhiteWins Black = false
-is_uncounted BlackWins White = false
-is_uncounted BlackWins Black = true
-is_uncounted Draw side = false
-is_uncounted WhiteHolds side = false
-is_uncounted BlackHolds side = false
-is_uncounted Unknown side = false
-is_uncounted (WhiteWinsIn n) side = false
-is_uncounted (BlackWinsIn n) side = false
 
 -- the plies of the side's wins in the table are plies to mate: the table leans on no other, and
 -- each of its exit lines by which the side wins gives a number of plies
 abbrev pub counts_wins : Link → Colour → Bool
-counts_wins link side =
-    not (link.leans || list_any (λ line. is_uncounted line.value side) link.rules.exits)
+counts_wins link side = not link.leans && lines_count side link.rules.exits
 
 -- the code of a hold or of a win
 abbrev pub holds : ℕ → Bool

@@ -35,12 +35,12 @@ pub record IsTried (links : List Link) (line : ExitLine) (qs : List Board) (tria
     pub heard : IsHeard links line (asked_of line.value qs) trial
 
 -- what is known of all lines, by these exits
-pub record AreTried (rules : RuleLines) (links : List Link) (qs : List Board)
+pub record AreTried (leans : Bool) (rules : RuleLines) (links : List Link) (qs : List Board)
     (trials : List Trial) : Type 0 where
   pub many : length trials ≡ length rules.exits
   pub each : (k : ℕ) (line : ExitLine) (trial : Trial) → k < length trials →
       IsTried links (slice_index_or rules.exits k line)
-      (decided_by rules.exits k qs) (slice_index_or trials k trial)
+      (decided_by leans rules links k qs) (slice_index_or trials k trial)
 
 -- the move leads out of the set
 abbrev pub is_outside : Next ℕ Value → Bool

@@ -1,6 +1,6 @@
 //! What the bases of exit lines say of chess. Each law is the contract of a function that does
 //! nothing.
-ghost use Rattle.std.specs.Prelude.{◌≡◌, ◌⊎◌, ◌↔◌, ℕ, List, true, false, Some, slice_get, slice_index};
+ghost use Rattle.std.specs.Prelude.{◌≡◌, ◌⊎◌, ◌↔◌, ℕ, Bool, List, true, false, Some, slice_get, slice_index};
 ghost use Rattle.std.specs.List.{Contains};
 ghost use Rattle.frz_board.specs.declared.man.Colour.{Colour};
 ghost use Rattle.frz_board.specs.Boards.{Board};
@@ -16,8 +16,7 @@ ghost use Rattle.frz_game.specs.Bounds.{IsTableOf};
 ghost use Rattle.frz_game.specs.ExactTables.{HasExactOutcomes};
 ghost use Rattle.frz_game.specs.Games.{chess, game_of};
 ghost use Rattle.frz_game.specs.Values.{AreTrueExits, IsTrueValue};
-ghost use Rattle.frz_backs.specs.Links.{AreExact, AreTrueLines, Link, backs_of};
-ghost use Rattle.frz_backs.specs.Values.{atlas_value};
+ghost use Rattle.frz_backs.specs.Links.{AreExact, AreTrueLines, Link, backs_of, own_over, value_over};
 ghost use Rattle.frz_premises.specs.declared.basis.Basis.TheVariants.{Believed};
 ghost use Rattle.frz_premises.specs.declared.sides.Strength.TheVariants.{Outcomes, Exact};
 ghost use Rattle.frz_premises.specs.Bases.{basis_of, believed_of, is_believed};
@@ -34,45 +33,47 @@ pub fn exits_in_words()
         Contains (outside_of rules.groups) q ↔ IsExit (game_of rules value) q }
 {}
 
-/// The value of a position by the rules is that of the line that decides it.
+/// The value of a position by the text's own lines is that of the line that decides it.
 pub fn decided_values()
-    ensures { (rules : RuleLines) (q : Board) (i : ℕ) (line : ExitLine) →
-        slice_get rules.exits i ≡ Some line → decides rules.exits i q ≡ true →
-        value_by rules q ≡ line.value }
+    ensures { (leans : Bool) (rules : RuleLines) (links : List Link) (q : Board) (i : ℕ)
+        (line : ExitLine) → slice_get rules.exits i ≡ Some line →
+        decides leans rules links i q ≡ true →
+        own_over leans rules (backs_of links) q ≡ line.value }
 {}
 
 /// A line that is not believed is true at each exit that it decides, if the tables are exact and
 /// their own exit lines are true.
 pub fn lines_are_true()
-    ensures { (rules : RuleLines) (links : List Link) → AreExact links → AreTrueLines links →
+    ensures { (leans : Bool) (rules : RuleLines) (links : List Link) → AreExact links → AreTrueLines links →
         (i : ℕ) (line : ExitLine) → slice_get rules.exits i ≡ Some line →
-        is_believed (basis_of rules links i line) ≡ false →
+        is_believed (basis_of leans rules links i line) ≡ false →
         (q : Board) → IsExit (game_of rules (value_by rules)) q →
-        decides rules.exits i q ≡ true → IsTrueValue line.value q }
+        decides leans rules links i q ≡ true → IsTrueValue line.value q }
 {}
 
 /// What each word on a line says of it, at every exit that the line decides.
 pub fn lines_rest()
-    ensures { (rules : RuleLines) (links : List Link) (i : ℕ) (line : ExitLine) →
-        RestsOn rules links i line (basis_of rules links i line) }
+    ensures { (leans : Bool) (rules : RuleLines) (links : List Link) (i : ℕ) (line : ExitLine) →
+        RestsOn leans rules links i line (basis_of leans rules links i line) }
 {}
 
 /// The exit that is told of a believed line is one that the line decides, and neither the men there
 /// nor a table show what the line says.
 pub fn believed_exits()
-    ensures { (rules : RuleLines) (value : Board → Value) (links : List Link) (i : ℕ)
-        (line : ExitLine) (q : Board) → basis_of rules links i line ≡ Believed q →
-        NeedsBelief rules value links i line q }
+    ensures { (leans : Bool) (rules : RuleLines) (value : Board → Value) (links : List Link) (i : ℕ)
+        (line : ExitLine) (q : Board) → basis_of leans rules links i line ≡ Believed q →
+        NeedsBelief leans rules value links i line q }
 {}
 
 /// The exits are true where what is believed holds: by the exit lines alone, and with the tables
 /// behind them.
 pub fn true_where_belief_holds()
-    ensures lines { (rules : RuleLines) (links : List Link) → AreExact links →
-        AreTrueLines links → BeliefHolds rules links → AreTrueExits rules (value_by rules) }
-    ensures atlas { (rules : RuleLines) (links : List Link) → AreExact links →
-        AreTrueLines links → BeliefHolds rules links →
-        AreTrueExits rules (atlas_value rules (backs_of links)) }
+    ensures lines { (leans : Bool) (rules : RuleLines) (links : List Link) → AreExact links →
+        AreTrueLines links → BeliefHolds leans rules links →
+        AreTrueExits rules (own_over leans rules (backs_of links)) }
+    ensures tables { (leans : Bool) (rules : RuleLines) (links : List Link) → AreExact links →
+        AreTrueLines links → BeliefHolds leans rules links →
+        AreTrueExits rules (value_over leans rules (backs_of links)) }
 {}
 
 /// The lines of the tables are true where what is believed holds, of each table with those before
@@ -83,8 +84,8 @@ pub fn tables_are_true()
 
 /// Where no line is believed, what is believed holds.
 pub fn none_believed()
-    ensures rules { (rules : RuleLines) (links : List Link) → believed_of rules links ≡ 0 →
-        BeliefHolds rules links }
+    ensures rules { (leans : Bool) (rules : RuleLines) (links : List Link) → believed_of leans rules links ≡ 0 →
+        BeliefHolds leans rules links }
     ensures tables { (links : List Link) → believed_in links ≡ 0 → BeliefsHold links }
 {}
 

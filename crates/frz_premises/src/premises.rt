@@ -1,5 +1,5 @@
 //! What each exit line of rules rests on.
-ghost use Rattle.std.specs.Prelude.{◌≡◌, ◌≤◌, ◌+◌, [], List, All, length, map, IfOk};
+ghost use Rattle.std.specs.Prelude.{◌≡◌, ◌≤◌, ◌+◌, [], Bool, List, All, length, map, IfOk};
 ghost use Rattle.frz_sets.specs.Sets.{size_of};
 ghost use Rattle.frz_sets.specs.Sound.{IsSound};
 ghost use Rattle.frz_sets.specs.Views.{RuleLines};
@@ -24,9 +24,9 @@ use std::sync::ledger::Ledger;
 
 /// The lines of a text, of which none has decided an exit yet, with so many tables.
 fn begin(alloc: Global, lines: &[Exit], tables: usize) -> Result<Vec<Trial>, AllocError>
-    ensures { IfOk result (λ trials. (rules : RuleLines) (links : List Link) →
-        rules.exits ≡ lines.now → length links ≡ tables →
-        AreTried rules links [] trials.items) }
+    ensures { IfOk result (λ trials. (leans : Bool) (rules : RuleLines)
+        (links : List Link) → rules.exits ≡ lines.now → length links ≡ tables →
+        AreTried leans rules links [] trials.items) }
 {
     let mut trials = Vec::new(alloc);
     for line in lines {
@@ -38,9 +38,9 @@ fn begin(alloc: Global, lines: &[Exit], tables: usize) -> Result<Vec<Trial>, All
 
 /// What each line rests on, by all exits.
 fn bases(alloc: Global, trials: &[Trial]) -> Result<Vec<Basis>, AllocError>
-    ensures { IfOk result (λ bases. (rules : RuleLines) (links : List Link) →
-        AreTried rules links (outside_of rules.groups) trials.now →
-        bases.items ≡ bases_of rules links) }
+    ensures { IfOk result (λ bases. (leans : Bool) (rules : RuleLines)
+        (links : List Link) → AreTried leans rules links (outside_of rules.groups) trials.now →
+        bases.items ≡ bases_of leans rules links) }
 {
     let mut bases = Vec::new(alloc);
     for trial in trials {
@@ -50,19 +50,20 @@ fn bases(alloc: Global, trials: &[Trial]) -> Result<Vec<Basis>, AllocError>
 }
 
 /// What each exit line of the rules rests on, in the order of the text, where these tables may
-/// prove lines. Each exit of the set is looked at, by a free move or another; the moves of each
+/// prove lines; their text leans on them or not. Each exit of the set is looked at, by a free move or another; the moves of each
 /// number are listed once. The tables are not checked here.
 pub fn premises_of<L: Ledger>(
     alloc: Global,
     set: &Set,
     rules: &Rules,
+    leans: bool,
     backs: &[BackTable],
     steps: &mut Steps<L>,
 ) -> Result<Vec<Basis>, AllocError>
     requires sound { IsSound rules.now }
     requires fits { set.now ≡ rules.now.groups }
     ensures bases { IfOk result
-        (λ bases. bases.items ≡ bases_of rules.now (map link_loaded backs.now)) }
+        (λ bases. bases.items ≡ bases_of leans rules.now (map link_loaded backs.now)) }
     ensures tellable { IfOk result
         (λ bases. All (IsTellable (length backs.now)) bases.items) }
     ensures steps { steps.new ≤ steps.old + size_of rules.now.groups }
@@ -76,6 +77,6 @@ pub fn premises_of<L: Ledger>(
         rules,
         book: &book,
     };
-    walk(&game, backs, &mut trials, steps);
+    walk(&game, leans, backs, &mut trials, steps);
     bases(alloc, &trials)
 }

@@ -1,53 +1,23 @@
 //! What a table says of a position, against the value that an exit line gives it.
 ghost use Rattle.std.specs.Prelude.{◌≡◌};
-ghost use Rattle.std.specs.List.{list_any};
 ghost use Rattle.frz_fide.specs.Valid.{IsValid};
 ghost use Rattle.frz_premises.specs.Saying as words;
-ghost use Rattle.frz_backs.specs.Loaded.{leans_as, link_loaded};
+ghost use Rattle.frz_backs.specs.Loaded.{link_loaded};
 
 use frz_arena::is_win;
-use frz_backs::{BackTable, codes_on};
+use frz_backs::{BackTable, codes_on, leans, lines_count};
 use frz_bits::Bitboards;
 use frz_board::Colour;
-use frz_sets::{Exit, Value};
-use frz_table::FileKind;
+use frz_sets::Value;
 
 /// The code of a position where a side holds.
 const HOLD: u32 = 1;
-
-/// Does the value say that the side wins, but not in how many plies?
-fn is_uncounted(value: Value, side: Colour) -> bool
-    ensures { result ≡ words.is_uncounted value side }
-{
-    match (value, side) {
-        (Value::WhiteWins, Colour::White) => true,
-        (Value::BlackWins, Colour::Black) => true,
-        _ => false,
-    }
-}
-
-/// Does a table of this kind lean on others?
-fn leans(kind: FileKind) -> bool
-    ensures { result ≡ leans_as kind }
-{
-    match kind {
-        FileKind::Atlas => true,
-        _ => false,
-    }
-}
-
-/// Does some exit line say that the side wins, but not in how many plies?
-fn leaves_uncounted(lines: &[Exit], side: Colour) -> bool
-    ensures { result ≡ list_any (λ line. words.is_uncounted line.value side) lines.now }
-{
-    lines.iter().any(|line| is_uncounted(line.value, side))
-}
 
 /// Are the plies of the side's wins in the table plies to mate?
 pub fn counts_wins(back: &BackTable, side: Colour) -> bool
     ensures { result ≡ words.counts_wins (link_loaded back.now) side }
 {
-    !(leans(back.table.kind()) || leaves_uncounted(&back.table.rules().exits, side))
+    !leans(back) && lines_count(side, &back.table.rules().exits)
 }
 
 /// Is it the code of a hold or of a win?

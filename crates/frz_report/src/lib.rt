@@ -11,6 +11,7 @@ mod squeeze;
 mod texts;
 mod walk;
 
+pub use class::{Class, class_of};
 pub use ending::end_of;
 pub use fault::{ReportFault, Totals};
 pub use reporting::{report, write_report};

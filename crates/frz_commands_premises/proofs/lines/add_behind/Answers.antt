@@ -35,9 +35,9 @@ loop-place-preserved g c =
     record {
       added =
           behind_more backs place back c.args.lines.now.items c.loop-place.lines.items
-          c.push.new.self.items c.add_text.new.lines.items c.text.result.now c.rules.result.now
+          c.push.new.self.items c.add_text.new.lines.items c.leans.result c.text.result.now c.rules.result.now
           c.loop-place-test.true c.index-backs-place.is c.loop-place.invariant.added
-          c.in_ok-push.ensures.items c.text.ensures c.rules.ensures.rules
+          c.in_ok-push.ensures.items c.leans.ensures c.text.ensures c.rules.ensures.rules
           c.in_ok-add_text.ensures.added;
       steps = omega (arith, same, sizes, before, more);
       later = omega (arith, c.loop-place.invariant.later, c.in_ok-add_text.ensures.later);

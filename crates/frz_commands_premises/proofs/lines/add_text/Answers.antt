@@ -19,5 +19,5 @@ pub add_lines-requires : goal.add_lines-requires
 add_lines-requires g c =
     ap (length {A = ℕ}) (c.deref.ensures.value ∙ c.in_ok-numbers.ensures)
     ∙ as_many_lines c.args.text.now c.args.rules.now c.requires.read
-    ∙ sym (many_bases c.args.rules.now (map link_loaded c.args.backs.now))
+    ∙ sym (many_bases c.args.leans c.args.rules.now (map link_loaded c.args.backs.now))
     ∙ sym (ap (length {A = Basis}) (c.deref-2.ensures.value ∙ c.in_ok-bases.ensures.bases))

@@ -18,18 +18,18 @@ returns-in_err-write_kept_line-clause-told g c =
     let rules = game.rules.now in
     let value = g.B.ExitBook.value_at game.book.now in
     let side = c.args.side in
-    let codes = g.E.Entries.codes c.args.entries.now side in
+    let kept = g.E.Entries.codes c.args.entries.now in
     let deciding = c.args.deciding.now in
     let decider = decider_of deciding.numbers.now deciding.rules.now
     (map loaded_back deciding.backs.now) in
     let old = sink_of g.O.Sink c.args.out.now in
     let new = sink_of g.O.Sink c.write_kept_line.new.out in
-    let tale = told_there rules value side codes decider c.args.number
+    let tale = told_there rules value side kept decider c.args.number
     c.one_failing_way.ensures.there in
     as_failed (λ (r : Result Status Failed).
-    TellsWhy rules value side codes decider c.args.number r old new) c.from_residual.result
+    TellsWhy rules value side kept decider c.args.number r old new) c.from_residual.result
     c.from_residual.ensures.0
-    (λ d. bound_failed rules value side codes decider c.args.number tale.text tale.wrong tale.told d
+    (λ d. bound_failed rules value side kept decider c.args.number tale.text tale.wrong tale.told d
     old new (subst (λ (n : ℕ). FailedWithin (kept_line side n) old new) c.entry.ensures
     c.in_err-write_kept_line.ensures.failed))
 
@@ -39,7 +39,7 @@ returns-in_err-wrong-clause-told g c =
     let rules = game.rules.now in
     let value = g.B.ExitBook.value_at game.book.now in
     let side = c.args.side in
-    let codes = g.E.Entries.codes c.args.entries.now side in
+    let kept = g.E.Entries.codes c.args.entries.now in
     let deciding = c.args.deciding.now in
     let decider = decider_of deciding.numbers.now deciding.rules.now
     (map loaded_back deciding.backs.now) in
@@ -47,9 +47,9 @@ returns-in_err-wrong-clause-told g c =
     let first = sink_of g.O.Sink c.write_kept_line.new.out in
     let new = sink_of g.O.Sink c.tell_behind.new.out in
     as_failed (λ (r : Result Status Failed).
-    TellsWhy rules value side codes decider c.args.number r old new)
+    TellsWhy rules value side kept decider c.args.number r old new)
     c.from_residual-in_err-wrong.result c.from_residual-in_err-wrong.ensures.0
-    (λ d. behind_failed rules value side codes decider c.args.number c.in_err-wrong.field-0.0 d old
+    (λ d. behind_failed rules value side kept decider c.args.number c.in_err-wrong.field-0.0 d old
     first new (subst (λ (n : ℕ). TookText (kept_line side n) old first) c.entry.ensures
     c.in_ok-write_kept_line.ensures.ok) c.in_err-wrong.ensures.told)
 
@@ -60,7 +60,7 @@ returns-in_err-write_wrong_entry-clause-told g c =
     let rules = game.rules.now in
     let value = g.B.ExitBook.value_at game.book.now in
     let side = c.args.side in
-    let codes = g.E.Entries.codes c.args.entries.now side in
+    let kept = g.E.Entries.codes c.args.entries.now in
     let deciding = c.args.deciding.now in
     let decider = decider_of deciding.numbers.now deciding.rules.now
     (map loaded_back deciding.backs.now) in
@@ -69,10 +69,10 @@ returns-in_err-write_wrong_entry-clause-told g c =
     let second = sink_of g.O.Sink c.tell_behind.new.out in
     let new = sink_of g.O.Sink c.write_wrong_entry.new.out in
     as_failed (λ (r : Result Status Failed).
-    TellsWhy rules value side codes decider c.args.number r old new)
+    TellsWhy rules value side kept decider c.args.number r old new)
     c.from_residual-in_err-write_wrong_entry.result
     c.from_residual-in_err-write_wrong_entry.ensures.0
-    (λ d. last_failed rules value side codes decider c.args.number d c.in_ok-wrong.wrong old first
+    (λ d. last_failed rules value side kept decider c.args.number d c.in_ok-wrong.wrong old first
     second new (subst (λ (n : ℕ). TookText (kept_line side n) old first) c.entry.ensures
     c.in_ok-write_kept_line.ensures.ok) c.in_ok-wrong.ensures.told
     c.in_err-write_wrong_entry.ensures.failed)

@@ -8,7 +8,7 @@ use Rattle.frz_backs.specs.FileOn.{loaded_back}
 use Rattle.frz_game.specs.declared.wrong.Wrong.{Wrong}
 use Rattle.frz_game.proofs.Lemmas.{finite}
 use Rattle.frz_commands_why.specs.Deciders.{decider_of}
-use Rattle.frz_commands_why.specs.Telling.{TellsBehind}
+use Rattle.frz_commands_why.specs.Telling.{TellsSo, ToldFailure}
 use Rattle.frz_commands_why.specs.Texts.{LeavesLegally, end_text}
 use Rattle.frz_commands_why.proofs.Told.{as_failed, failure_failed, failure_told, told_legally}
 use Rattle.frz_commands_why.proofs.telling.tell_failure.Goals as goal
@@ -31,9 +31,9 @@ returns-in_err-reason-clause-told g c =
     let old = sink_of g.O.Sink c.args.out.now in
     let new = sink_of g.O.Sink c.write_failing_way.new.out in
     as_failed (λ (r : Result (Option Wrong) Failed).
-    TellsBehind rules value c.args.side codes decider c.args.number r old new)
+    TellsSo (ToldFailure rules value c.args.side codes decider c.args.number) r old new)
     c.from_residual.result c.from_residual.ensures.0
-    (λ d. failure_failed rules value c.args.side codes decider c.args.number c.requires.failing
+    (λ d. failure_failed rules value c.args.side codes decider c.args.number
     c.in_err-reason.field-0.0 d old new c.in_err-reason.ensures.told)
 
 pub write_end-requires-clause-legal : goal.write_end-requires-clause-legal
@@ -58,7 +58,7 @@ returns-clause-told g c =
     let old = sink_of g.O.Sink c.args.out.now in
     let mid = sink_of g.O.Sink c.write_failing_way.new.out in
     let new = sink_of g.O.Sink c.write_end.new.out in
-    failure_told rules value c.args.side codes decider c.args.number c.requires.failing
+    failure_told rules value c.args.side codes decider c.args.number
     c.in_ok-reason.reason c.write_end.result old mid new c.in_ok-reason.ensures.told
     (subst (λ (l : List GroupLine). WroteText (end_text l decider c.in_ok-reason.reason)
     c.write_end.result mid new) game.fits c.write_end.ensures.wrote)

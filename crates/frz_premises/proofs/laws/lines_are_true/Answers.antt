@@ -4,5 +4,5 @@ use Rattle.frz_premises.proofs.TrueLines.{line_true}
 use Rattle.frz_premises.proofs.laws.lines_are_true.Goals as goal
 
 pub returns : goal.returns
-returns c rules links exact own i line there h q x d =
-    line_true rules (value_by rules) links (all_prove links exact own) i line there h q x d
+returns c leans rules links exact own i line there h q x d =
+    line_true leans rules (value_by rules) links (all_prove links exact own) i line there h q x d

@@ -18,21 +18,21 @@ loop-trial-preserved c =
     let inv = c.loop-trial.invariant in
     record {
       many = ap length items ∙ length_push old b ∙ ap (λ (n : ℕ). n + 1) inv.many;
-      each = λ rules links tried k line basis l.
+      each = λ leans rules links tried k line basis l.
           (let this = subst (λ (t : Trial). IsTried links (get_or rules.exits i line)
-          (decided_by rules.exits i (outside_of rules.groups)) t) (sym c.trial-item.is)
+          (decided_by leans rules links i (outside_of rules.groups)) t) (sym c.trial-item.is)
           (tried.each i line c.trial-item.result c.loop-trial-test.true) in
           ap (λ (xs : List Basis). get_or xs k basis) items
-          ∙ based_more (λ j. basis_of rules links j (get_or rules.exits j line)) old i b inv.many
-          (λ j x low. inv.each rules links tried j line x low)
+          ∙ based_more (λ j. basis_of leans rules links j (get_or rules.exits j line)) old i b inv.many
+          (λ j x low. inv.each leans rules links tried j line x low)
           (c.basis.ensures links (get_or rules.exits i line)
-          (decided_by rules.exits i (outside_of rules.groups)) this) k basis l);
+          (decided_by leans rules links i (outside_of rules.groups)) this) k basis l);
     }
 
 pub returns : goal.returns
-returns c rules links tried =
+returns c leans rules links tried =
     let inv = c.loop-trial.invariant in
     let many = inv.many in
     let long = tried.many in
-    all_based rules links c.loop-trial.bases.items (omega (arith, many, long))
-    (λ k line x l. inv.each rules links tried k line x (omega (arith, l, long)))
+    all_based leans rules links c.loop-trial.bases.items (omega (arith, many, long))
+    (λ k line x l. inv.each leans rules links tried k line x (omega (arith, l, long)))

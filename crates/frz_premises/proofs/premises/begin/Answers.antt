@@ -25,7 +25,7 @@ loop-line-preserved c =
     }
 
 pub returns : goal.returns
-returns c rules links same_lines e =
+returns c leans rules links same_lines e =
     let inv = c.loop-line.invariant in
     let many = inv.many in
-    all_begun c.args.lines.now rules links c.loop-line.trials.items same_lines (omega arith) (λ k line trial l. inv.each links e k line trial (omega arith))
+    all_begun c.args.lines.now leans rules links c.loop-line.trials.items same_lines (omega arith) (λ k line trial l. inv.each links e k line trial (omega arith))

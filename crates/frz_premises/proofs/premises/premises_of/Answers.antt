@@ -1,4 +1,4 @@
-use Rattle.std.proofs.Common.{◌≡◌, ◌∙◌, [], List, length, All, Vec, Global, map, sym, ap, subst, arith}
+use Rattle.std.proofs.Common.{Bool, ◌≡◌, ◌∙◌, [], List, length, All, Vec, Global, map, sym, ap, subst, arith}
 use Rattle.std.proofs.lemmas.List.{length-map, with_items_is}
 use Rattle.frz_sets.specs.Views.{RuleLines}
 use Rattle.frz_backs.specs.Links.{Link}
@@ -17,8 +17,8 @@ pub walk-requires-clause-tried : goal.walk-requires-clause-tried
 walk-requires-clause-tried g c =
     let rules = c.args.rules.now in
     let links = map link_loaded c.args.backs.now in
-    subst (λ (ts : List Trial). AreTried rules links [] ts) (sym c.deref_mut.ensures.value)
-    (c.in_ok-trials.ensures rules links
+    subst (λ (ts : List Trial). AreTried c.args.leans rules links [] ts) (sym c.deref_mut.ensures.value)
+    (c.in_ok-trials.ensures c.args.leans rules links
     (sym (c.as_slice-lines.ensures.value ∙ ap (λ (r : RuleLines). r.exits) c.rules.view_is))
     (length-map c.args.backs.now link_loaded))
 
@@ -27,24 +27,24 @@ returns-clause-bases g c =
     let rules = c.args.rules.now in
     let links = map link_loaded c.args.backs.now in
     let items = with_items_is c.in_ok-trials.trials c.walk.new.trials (omega arith) in
-    let tried = subst (λ (ts : List Trial). AreTried rules links (outside_of rules.groups) ts)
+    let tried = subst (λ (ts : List Trial). AreTried c.args.leans rules links (outside_of rules.groups) ts)
     (sym (c.deref.ensures.value ∙ items)) c.walk.ensures.tried in
-    weaker_holds_if_ok (λ (v : Vec Basis Global). (rs : RuleLines) (ls : List Link) →
-    AreTried rs ls (outside_of rs.groups) c.deref.result.now → v.items ≡ bases_of rs ls)
-    (λ (v : Vec Basis Global). v.items ≡ bases_of rules links) c.bases.result
-    (λ v h. h rules links tried) c.bases.ensures
+    weaker_holds_if_ok (λ (v : Vec Basis Global). (b : Bool) (rs : RuleLines) (ls : List Link) →
+    AreTried b rs ls (outside_of rs.groups) c.deref.result.now → v.items ≡ bases_of b rs ls)
+    (λ (v : Vec Basis Global). v.items ≡ bases_of c.args.leans rules links) c.bases.result
+    (λ v h. h c.args.leans rules links tried) c.bases.ensures
 
 pub returns-clause-tellable : goal.returns-clause-tellable
 returns-clause-tellable g c =
     let rules = c.args.rules.now in
     let links = map link_loaded c.args.backs.now in
     let items = with_items_is c.in_ok-trials.trials c.walk.new.trials (omega arith) in
-    let tried = subst (λ (ts : List Trial). AreTried rules links (outside_of rules.groups) ts)
+    let tried = subst (λ (ts : List Trial). AreTried c.args.leans rules links (outside_of rules.groups) ts)
     (sym (c.deref.ensures.value ∙ items)) c.walk.ensures.tried in
-    weaker_holds_if_ok (λ (v : Vec Basis Global). (rs : RuleLines) (ls : List Link) →
-    AreTried rs ls (outside_of rs.groups) c.deref.result.now → v.items ≡ bases_of rs ls)
+    weaker_holds_if_ok (λ (v : Vec Basis Global). (b : Bool) (rs : RuleLines) (ls : List Link) →
+    AreTried b rs ls (outside_of rs.groups) c.deref.result.now → v.items ≡ bases_of b rs ls)
     (λ (v : Vec Basis Global). All (IsTellable (length c.args.backs.now)) v.items) c.bases.result
     (λ v h. subst (λ (bs : List Basis). All (IsTellable (length c.args.backs.now)) bs)
-    (sym (h rules links tried))
-    (all_tellable rules links (length c.args.backs.now)
+    (sym (h c.args.leans rules links tried))
+    (all_tellable c.args.leans rules links (length c.args.backs.now)
     (length-map c.args.backs.now link_loaded))) c.bases.ensures

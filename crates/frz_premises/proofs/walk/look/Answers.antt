@@ -42,7 +42,7 @@ note_all-requires-clause-tried g c =
 pub returns-in-Some-clause-tried : goal.returns-in-Some-clause-tried
 returns-in-Some-clause-tried g c =
     let rules = c.args.game.now.rules.now in
-    subst (λ (l : List Board). AreTried rules (map link_loaded c.args.backs.now) l
+    subst (λ (l : List Board). AreTried c.args.leans rules (map link_loaded c.args.backs.now) l
     c.note_all.new.trials)
     (exits_there rules (λ q. Unknown) c.args.number c.in-Some.p
     (there g (goal.at.returns-in-Some-clause-tried g c).In-Some) c.as_slice.result.now
@@ -52,7 +52,7 @@ returns-in-Some-clause-tried g c =
 pub returns-in_default-clause-tried : goal.returns-in_default-clause-tried
 returns-in_default-clause-tried g c =
     let rules = c.args.game.now.rules.now in
-    subst (λ (l : List Board). AreTried rules (map link_loaded c.args.backs.now) l
+    subst (λ (l : List Board). AreTried c.args.leans rules (map link_loaded c.args.backs.now) l
     c.args.trials.now)
     (none_there rules.groups c.args.number
     (by_groups c.args.game.now.set.now rules.groups c.args.number None c.args.game.now.fits

@@ -25,7 +25,7 @@ loop-arm-preserved c qs tried =
     let front : List Board = boards_after p (take i arms) in
     let step : boards_after p (take (i + 1) arms) ≡ front ++ boards_after p (arm ∷ []) =
     boards_step p arms i arm (omega arith) c.arm-item.is in
-    subst (λ (l : List Board). AreTried c.args.rules.now (map link_loaded c.args.backs.now) l
+    subst (λ (l : List Board). AreTried c.args.leans c.args.rules.now (map link_loaded c.args.backs.now) l
     c.note_arm.new.trials)
     (append_assoc qs front (boards_after p (arm ∷ []))
     ∙ ap (λ (l : List Board). qs ++ l) (sym step))
@@ -33,6 +33,6 @@ loop-arm-preserved c qs tried =
 
 pub returns : goal.returns
 returns c qs tried =
-    subst (λ (l : List (Arm Step ℕ Value)). AreTried c.args.rules.now
+    subst (λ (l : List (Arm Step ℕ Value)). AreTried c.args.leans c.args.rules.now
     (map link_loaded c.args.backs.now) (qs ++ boards_after c.args.p.now l) c.loop-arm.trials)
     (take_all c.loop-arm.arm-index c.args.arms.now (omega arith)) (c.loop-arm.invariant qs tried)

@@ -7,6 +7,6 @@ use Rattle.frz_premises.proofs.walk.note_all.Given as goal
 -- the moves before this one are noted
 abbrev pub invariant-loop-arm : goal.invariant-loop-arm
 invariant-loop-arm l =
-    (qs : List Board) → AreTried l.rules (map link_loaded l.backs) qs l.fn.trials →
-    AreTried l.rules (map link_loaded l.backs) (qs ++ boards_after l.p (take l.arm-index l.arms))
+    (qs : List Board) → AreTried l.leans l.rules (map link_loaded l.backs) qs l.fn.trials →
+    AreTried l.leans l.rules (map link_loaded l.backs) (qs ++ boards_after l.p (take l.arm-index l.arms))
     l.trials

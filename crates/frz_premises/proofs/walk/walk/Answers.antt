@@ -28,5 +28,5 @@ returns-clause-tried g c =
     let size_is : c.size-number-end.result ≡ size_of rules.groups = c.size-number-end.ensures.size
     ∙ ap size_of c.args.game.now.fits in
     let end : c.loop-number.number ≡ size_of rules.groups = omega arith in
-    subst (λ (k : ℕ). AreTried rules (map link_loaded c.args.backs.now)
+    subst (λ (k : ℕ). AreTried c.args.leans rules (map link_loaded c.args.backs.now)
     (outside_below rules.groups k) c.loop-number.trials) end c.loop-number.invariant.tried

@@ -1,0 +1,2 @@
+pub mod Victims
+pub mod Repairs
