@@ -16,7 +16,7 @@ use Rattle.frz_game.specs.Numbers.{is_member}
 use Rattle.frz_store.specs.Files.{Files}
 use Rattle.frz_store.specs.Told.{StoreTold}
 use Rattle.frz_table.specs.declared.fault.TableFault.{TableFault}
-use Rattle.frz_table.specs.declared.fault.TableFault.TheVariants.{Missing, Magic, Truncated, Extra, Rules, Size, Failed, NoMemory}
+use Rattle.frz_table.specs.declared.fault.TableFault.TheVariants.{Missing, Magic, Other, Truncated, Extra, Rules, Size, Failed, NoMemory}
 use Rattle.frz_table.specs.declared.kind.FileKind.{FileKind}
 use Rattle.frz_table.specs.Layout.{magic_of, file_of, codes_at}
 use Rattle.frz_table.specs.Opening.{Contents, contents_of, opened, Refuses, table_format}
@@ -76,6 +76,7 @@ module _ (kind : FileKind) (p : Board) (name : List ℕ) (old new : StoreTold) w
       → Answers {A = KeptCodes} (Err (stop_of_table fault)) (kept_of kind p held)
   refused_due held Missing e = fault_due held Missing e
   refused_due held Magic e = fault_due held Magic e
+  refused_due held (Other other) e = fault_due held (Other other) e
   refused_due held (Truncated length due) e = fault_due held (Truncated length due) e
   refused_due held (Extra length due) e = fault_due held (Extra length due) e
   refused_due held (Rules fault) e = fault_due held (Rules fault) e

@@ -7,11 +7,10 @@ use Rattle.frz_rules.proofs.Lemmas.{text_sound}
 use Rattle.frz_sets.specs.Sets.{size_of}
 use Rattle.frz_sets.specs.Views.{RuleLines}
 use Rattle.frz_store.specs.Files.{Files, put}
-use Rattle.frz_table.specs.declared.kind.FileKind.TheVariants.{Atlas}
-use Rattle.frz_table.specs.Layout.{magic_of}
+use Rattle.frz_table.specs.Layout.{kind_by, magic_of}
 use Rattle.frz_check.proofs.Lemmas.{file_there, one_file}
-use Rattle.frz_backs.specs.Values.{atlas_value}
-use Rattle.frz_backs.proofs.Lemmas.{atlas_small}
+use Rattle.frz_backs.specs.Links.{value_over}
+use Rattle.frz_backs.proofs.Lemmas.{over_small}
 use Rattle.frz_answer.specs.declared.status.Status.TheVariants.{Success}
 use Rattle.frz_answer.specs.Answers.{Answer, says, SomeAnswer}
 use Rattle.frz_answer.specs.Lawful.{HasOneAnswer}
@@ -19,7 +18,7 @@ use Rattle.frz_prelude.specs.Replies.{built_line}
 use Rattle.frz_prelude.specs.RulesFiles.{rules_held}
 use Rattle.frz_prelude.specs.declared.refused.Refused.{Refused as Refusal}
 use Rattle.frz_atlas.specs.Behind.{TableBytes, backs_in}
-use Rattle.frz_atlas.specs.FileOver.{IsFileOver}
+use Rattle.frz_atlas.specs.FileOver.{IsFileOver, leans_on}
 use Rattle.frz_atlas_prelude.specs.RulesRefusals.{Refuses, of_back, of_rules}
 use Rattle.frz_atlas_prelude.specs.Tables.{AreTablesIn}
 use Rattle.frz_atlas_prelude.proofs.Lemmas.{held_rules, not_refused, one_refusal, one_tables, some_answer}
@@ -29,18 +28,20 @@ use Rattle.frz_commands_atlas.specs.Building.{IsBuiltAt, MakesAtlas, made, no_ba
 pub file_over : (text : List ℕ) (lines : RuleLines) (tables : List TableBytes)
     → rules_of text ≡ Ok lines → (bytes : List ℕ) × IsFileOver text lines (backs_in tables) bytes
 file_over text lines tables read =
-    let value = atlas_value lines (backs_in tables) in
+    let backs = backs_in tables in
+    let value = value_over (leans_on backs) lines backs in
     file_there lines value
-    (table_there lines value (atlas_small lines (backs_in tables) (text_sound text lines read)))
-    (magic_of Atlas) text
+    (table_there lines value (over_small (leans_on backs) lines backs (text_sound text lines read)))
+    (magic_of (kind_by (leans_on backs))) text
 
 one_over : (text : List ℕ) (lines : RuleLines) (tables : List TableBytes) (bytes others : List ℕ)
     → IsFileOver text lines (backs_in tables) bytes
     → IsFileOver text lines (backs_in tables) others → bytes ≡ others
 one_over text lines tables bytes others one other =
-    one_file lines (atlas_value lines (backs_in tables))
-    (table_one lines (atlas_value lines (backs_in tables))) (magic_of Atlas) text bytes others one
-    other
+    let backs = backs_in tables in
+    let value = value_over (leans_on backs) lines backs in
+    one_file lines value (table_one lines value) (magic_of (kind_by (leans_on backs))) text bytes
+    others one other
 
 module _ (rules table : List ℕ) (behind : List (List ℕ)) (m : Files) where
   abbrev helds : List (Option (List ℕ))

@@ -4,8 +4,7 @@ use Rattle.std.specs.Prelude.{map}
 use Rattle.frz_sets.specs.Sets.{size_of}
 use Rattle.frz_store.specs.Files.{Files}
 use Rattle.frz_store.specs.Told.{StoreTold, SourceTold, SinkTold, StoreQuiet}
-use Rattle.frz_table.specs.declared.kind.FileKind.TheVariants.{Atlas}
-use Rattle.frz_table.specs.Opening.{opened, table_format}
+use Rattle.frz_table.specs.Opening.{opened, own_format}
 use Rattle.frz_check.specs.declared.verdict.Verdict.{Verdict}
 use Rattle.frz_check.specs.declared.verdict.Verdict.TheVariants as verdicts
 use Rattle.frz_answer.specs.declared.end.End.{End}
@@ -140,7 +139,7 @@ module _ (table : List ℕ) (behind : List (List ℕ)) (apart : has_twice (table
             h.all.agrees agrees;
         answer = no_table (record {
           fault = f;
-          refused = ap (opened (table_format Atlas)) h.here ∙ refused;
+          refused = ap (opened own_format) h.here ∙ refused;
           told = refl;
         });
         costs = spent_within_costs r.held r.helds h r.within;
@@ -149,7 +148,7 @@ module _ (table : List ℕ) (behind : List (List ℕ)) (apart : has_twice (table
         found = found_where (checking_at table behind) h.all.files files left start (λ e. cc)
             h.all.agrees agrees;
         answer = no_back (record {
-          opens = (refused.0.0, ap (opened (table_format Atlas)) h.here ∙ refused.0.1);
+          opens = (refused.0.0, ap (opened own_format) h.here ∙ refused.0.1);
           place = place;
           fault = f;
           refused = subst (λ (l : List (Option (List ℕ))). IsRefusedAt [] l place f) (sym h.others)

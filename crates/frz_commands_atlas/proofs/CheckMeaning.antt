@@ -1,41 +1,41 @@
 -- What the answers of `check` mean.
-use Rattle.std.proofs.Common.{◌≡◌, refl, sym, ap, subst, ◌∙◌, ℕ, List, [], Option, IfSome}
+use Rattle.std.proofs.Common.{◌≡◌, refl, sym, ap, subst, ◌∙◌, ℕ, Bool, true, false, List, [], Option, IfSome}
 use Rattle.std.specs.Prelude.{map}
 use Rattle.frz_board.specs.Boards.{Board}
 use Rattle.frz_board.specs.declared.man.Colour.{Colour}
 use Rattle.frz_board.specs.declared.man.Colour.TheVariants.{White, Black}
+use Rattle.frz_exits.specs.Books.{value_by}
 use Rattle.frz_game.specs.Bounds.{IsTableOf}
-use Rattle.frz_game.proofs.Lemmas.{plies_few, table_exactly, table_means}
+use Rattle.frz_game.specs.Values.{AreTrueExits}
+use Rattle.frz_game.proofs.Lemmas.{exits_by_men, plies_few, table_exactly, table_means, text_by_men}
 use Rattle.frz_rules.proofs.Lemmas.{text_sound}
 use Rattle.frz_sets.specs.Sets.{size_of}
 use Rattle.frz_sets.specs.Views.{RuleLines}
 use Rattle.frz_sets.specs.declared.exit.Value.{Value}
 use Rattle.frz_store.specs.Bytes.{AreBytes, HoldsBytes}
 use Rattle.frz_store.specs.Files.{Files}
-use Rattle.frz_table.specs.declared.kind.FileKind.TheVariants.{Atlas}
-use Rattle.frz_table.specs.Opening.{Contents, table_format}
+use Rattle.frz_table.specs.Opening.{Contents, own_format}
 use Rattle.frz_table.proofs.Lemmas.{belongs}
 use Rattle.frz_check.specs.declared.verdict.Verdict.{Verdict}
 use Rattle.frz_check.specs.declared.verdict.Verdict.TheVariants as verdicts
 use Rattle.frz_check.specs.Kept.{kept_codes}
 use Rattle.frz_check.proofs.Lemmas.{one_file_holds, one_file_opens, tables_are_one}
 use Rattle.frz_backs.specs.Books.{Back}
-use Rattle.frz_backs.specs.Links.{AreExact, Link, backs_of}
-use Rattle.frz_backs.specs.Values.{atlas_value}
-use Rattle.frz_backs.proofs.Lemmas.{atlas_small, exits_over_true, mates_within, outcomes_over, tables_decide}
+use Rattle.frz_backs.specs.Links.{AreExact, AreTrueLines, Link, backs_of, value_over}
+use Rattle.frz_backs.proofs.Lemmas.{over_small, exits_over_true, mates_within, outcomes_over, tables_decide}
 use Rattle.frz_answer.specs.declared.status.Status.{Status}
 use Rattle.frz_answer.specs.declared.status.Status.TheVariants as statuses
 use Rattle.frz_answer.specs.Answers.{Answer, says}
 use Rattle.frz_prelude.proofs.Lemmas.{by_table_status}
-use Rattle.frz_atlas.specs.Behind.{AreJudged, backs_in, link_of}
+use Rattle.frz_atlas.specs.Behind.{AreJudged, backs_in, kind_of, leans, link_of}
 use Rattle.frz_atlas.specs.Checking.{sizes_in}
 use Rattle.frz_atlas.specs.declared.fault.BackFault.{BackFault}
 use Rattle.frz_atlas.specs.declared.fault.BackFault.TheVariants.{Refused, Wrong}
-use Rattle.frz_atlas.proofs.Lemmas.{judged_exact, links_backs}
+use Rattle.frz_atlas.proofs.Lemmas.{as_own, judged_exact, links_backs, of_own}
 use Rattle.frz_atlas_prelude.specs.BackLines.{back_status}
 use Rattle.frz_atlas_prelude.specs.TableRefusals.{RefusesBehind}
 use Rattle.frz_atlas_prelude.proofs.Lemmas.{judged_over, never_refused, result_is_not_both}
-use Rattle.frz_commands_atlas.specs.AtlasHeadline.{AtlasHeadline}
+use Rattle.frz_commands_atlas.specs.AtlasHeadline.{AtlasHeadline, HeadlineOver}
 use Rattle.frz_commands_atlas.specs.Checking.{IsCheckedAt, IsJudgedAtlas, judged, no_back, no_table, verdict_line, verdict_status}
 use Rattle.frz_commands_atlas.specs.CheckMeans.{HoldsAtlas, MeansCheck, MeansStatus, of_back, of_entry, of_fault, of_table}
 use Rattle.frz_commands_atlas.proofs.CheckOnce.{opens_judged, same_verdict}
@@ -49,7 +49,7 @@ module _ (table : List ℕ) (behind : List (List ℕ)) (files : Files) (are : Ho
     links = map link_of h.tables
 
     abbrev value : Board → Value
-    value = atlas_value rules (backs_of links)
+    value = value_over (leans h.bytes) rules (backs_of links)
 
     all_judged : AreJudged h.tables
     all_judged = judged_over files are [] behind h.tables h.behind_it.there h.behind_it.exact
@@ -63,13 +63,30 @@ module _ (table : List ℕ) (behind : List (List ℕ)) (files : Files) (are : Ho
     kept_codes_are_table : (side : Colour)
         → IsTableOf rules value side (kept_codes h.contents h.bytes side)
     kept_codes_are_table = subst
-        (λ (backs : List Back). (side : Colour) → IsTableOf rules (atlas_value rules backs) side
+        (λ (backs : List Back). (side : Colour) → IsTableOf rules (value_over (leans h.bytes) rules backs) side
         (kept_codes h.contents h.bytes side)) (sym (links_backs h.tables)) h.judged
+
+    exits_so : (b : Bool) → AreTrueLines links → AreTrueExits rules (value_by rules)
+        → AreTrueExits rules (value_over b rules (backs_of links))
+    exits_so true lines own = exits_over_true rules links links_exact lines own
+    exits_so false lines own = own
+
+    leans_so : (b : Bool) (codes : Colour → List ℕ)
+        → ((side : Colour) → IsTableOf rules (value_over b rules (backs_of links)) side (codes side))
+        → b ≡ true → HeadlineOver rules links (codes White) (codes Black)
+    leans_so true codes are e = record {
+      white_mates = mates_within rules links links_exact White;
+      black_mates = mates_within rules links links_exact Black;
+      decided = tables_decide rules links links_exact;
+      white_outcomes = outcomes_over rules links links_exact White (codes White) (are White);
+      black_outcomes = outcomes_over rules links links_exact Black (codes Black) (are Black);
+    }
+    leans_so false codes are e = absurd cc
 
     -- all tables are exact
     abbrev headline : AtlasHeadline table behind files
     headline =
-        let known = belongs (table_format Atlas) h.bytes h.contents h.opens in
+        let known = belongs own_format h.bytes h.contents h.opens in
         record {
           tables = h.tables;
           behind_there = h.behind_it.there;
@@ -89,30 +106,23 @@ module _ (table : List ℕ) (behind : List (List ℕ)) (files : Files) (are : Ho
           black_is = refl;
           white_table = kept_codes_are_table White;
           black_table = kept_codes_are_table Black;
-          one_file = tables_are_one Atlas value h.contents h.bytes own_bytes h.opens
-              kept_codes_are_table;
+          one_file = tables_are_one (kind_of h.bytes) value h.contents h.bytes own_bytes
+              (of_own h.bytes h.contents h.opens) kept_codes_are_table;
           white_means =
               table_means rules value White (kept_codes h.contents h.bytes White)
               (kept_codes_are_table White);
           black_means =
               table_means rules value Black (kept_codes h.contents h.bytes Black)
               (kept_codes_are_table Black);
-          true_exits = λ own lines. exits_over_true rules links links_exact lines own;
-          white_mates = mates_within rules links links_exact White;
-          black_mates = mates_within rules links links_exact Black;
+          true_exits = λ own lines. exits_so (leans h.bytes) lines own;
+          true_by_men = λ men. exits_by_men rules (value_by rules) (text_by_men rules men);
           white_exact =
               table_exactly rules value White (kept_codes h.contents h.bytes White)
               (kept_codes_are_table White);
           black_exact =
               table_exactly rules value Black (kept_codes h.contents h.bytes Black)
               (kept_codes_are_table Black);
-          decided = tables_decide rules links links_exact;
-          white_outcomes =
-              outcomes_over rules links links_exact White (kept_codes h.contents h.bytes White)
-              (kept_codes_are_table White);
-          black_outcomes =
-              outcomes_over rules links links_exact Black (kept_codes h.contents h.bytes Black)
-              (kept_codes_are_table Black);
+          over = leans_so (leans h.bytes) (kept_codes h.contents h.bytes) kept_codes_are_table;
         }
 
   -- the one file of a text over exact tables is exact
@@ -120,18 +130,19 @@ module _ (table : List ℕ) (behind : List (List ℕ)) (files : Files) (are : Ho
       → IsJudgedAtlas (files table) (map files behind) verdicts.Exact
   exact_atlas p =
       let contents : Contents = record { text = p.text; rules = p.rules } in
-      let value = atlas_value p.rules (backs_in p.tables) in
+      let kind = kind_of p.bytes in
+      let value = value_over (leans p.bytes) p.rules (backs_in p.tables) in
       let sound = text_sound p.text p.rules p.accepted in
       record {
         bytes = p.bytes;
         there = p.there;
         contents = contents;
-        opens = one_file_opens Atlas value contents p.bytes p.accepted p.one_file;
+        opens = as_own p.bytes contents (one_file_opens kind value contents p.bytes p.accepted p.one_file);
         tables = p.tables;
         behind_it = p.behind_it;
-        judged = one_file_holds Atlas value contents p.bytes
-            (plies_few p.rules value (atlas_small p.rules (backs_in p.tables) sound)) p.accepted
-            p.one_file;
+        judged = one_file_holds kind value contents p.bytes
+            (plies_few p.rules value (over_small (leans p.bytes) p.rules (backs_in p.tables) sound))
+            p.accepted p.one_file;
       }
 
   module _ (a : Answer) where

@@ -6,22 +6,21 @@ use Rattle.frz_sets.specs.Sets.{size_of}
 use Rattle.frz_store.specs.Files.{Files}
 use Rattle.frz_table.specs.declared.fault.TableFault.{TableFault}
 use Rattle.frz_table.specs.declared.fault.TableFault.TheVariants as table_faults
-use Rattle.frz_table.specs.declared.kind.FileKind.TheVariants.{Atlas}
-use Rattle.frz_table.specs.Opening.{Contents, opened, table_format}
+use Rattle.frz_table.specs.Opening.{Contents, opened, own_format}
 use Rattle.frz_table.proofs.Lemmas.{opened_missing}
 use Rattle.frz_check.specs.declared.verdict.Verdict.{Verdict}
 use Rattle.frz_check.specs.declared.verdict.Verdict.TheVariants as verdicts
 use Rattle.frz_check.specs.Kept.{kept_codes}
 use Rattle.frz_check.specs.Verdicts.{IsVerdict}
 use Rattle.frz_check.proofs.Lemmas.{many_codes, one_verdict, verdict_there}
-use Rattle.frz_backs.specs.Values.{atlas_value}
+use Rattle.frz_backs.specs.Links.{value_over}
 use Rattle.frz_answer.specs.Answers.{Answer, says, SomeAnswer}
 use Rattle.frz_answer.specs.Lawful.{HasOneAnswer}
 use Rattle.frz_prelude.specs.Refusals.{table_status}
 use Rattle.frz_prelude.specs.TableCauses.{table_line}
 use Rattle.frz_prelude.specs.declared.refused.Refused.TheVariants as refusals
 use Rattle.frz_prelude.proofs.Lemmas.{refusal_said}
-use Rattle.frz_atlas.specs.Behind.{TableBytes, backs_in}
+use Rattle.frz_atlas.specs.Behind.{TableBytes, backs_in, leans}
 use Rattle.frz_atlas.specs.Checking.{sizes_in}
 use Rattle.frz_atlas.specs.declared.fault.BackFault.{BackFault}
 use Rattle.frz_atlas_prelude.specs.BackLines.{back_line, back_status}
@@ -41,19 +40,19 @@ same_contents x one other e f =
 
 module _ (table : List ℕ) (behind : List (List ℕ)) (m : Files) where
   abbrev opening : Result Contents TableFault
-  opening = opened (table_format Atlas) (m table)
+  opening = opened own_format (m table)
 
   abbrev helds : List (Option (List ℕ))
   helds = map m behind
 
   -- there is an answer
   by_behind : (contents : Contents) (bytes : List ℕ) → m table ≡ Some bytes
-      → opened (table_format Atlas) (Some bytes) ≡ Ok contents → AllFound [] helds
+      → opened own_format (Some bytes) ≡ Ok contents → AllFound [] helds
       → SomeAnswer (λ a. IsCheckedAt table behind m a)
   by_behind contents bytes there opens (one_refused place fault h) = record {
     a = says (back_status fault) (back_line place fault) m;
     answer = no_back (record {
-      opens = (contents, ap (opened (table_format Atlas)) there ∙ opens);
+      opens = (contents, ap (opened own_format) there ∙ opens);
       place = place;
       fault = fault;
       refused = h;
@@ -62,7 +61,7 @@ module _ (table : List ℕ) (behind : List (List ℕ)) (m : Files) where
     text = back_line_not_empty place fault;
   }
   by_behind contents bytes there opens (all_exact tables are h) =
-      let value = atlas_value contents.rules (backs_in tables) in
+      let value = value_over (leans bytes) contents.rules (backs_in tables) in
       let v = verdict_there contents.rules value (kept_codes contents bytes)
       (many_codes contents bytes) in
       record {
@@ -97,11 +96,11 @@ module _ (table : List ℕ) (behind : List (List ℕ)) (m : Files) where
       by_held : (held : Option (List ℕ)) → m table ≡ held → (contents : Contents)
           → opening ≡ Ok contents → SomeAnswer (λ a. IsCheckedAt table behind m a)
       by_held None there contents e =
-          absurd (result_is_not_both (opened (table_format Atlas) None) contents
+          absurd (result_is_not_both (opened own_format None) contents
           table_faults.Missing
-          (ap (opened (table_format Atlas)) (sym there) ∙ e) (opened_missing (table_format Atlas)))
+          (ap (opened own_format) (sym there) ∙ e) (opened_missing own_format))
       by_held (Some bytes) there contents e =
-          by_behind contents bytes there (ap (opened (table_format Atlas)) (sym there) ∙ e)
+          by_behind contents bytes there (ap (opened own_format) (sym there) ∙ e)
           (all_found [] helds)
 
   pub some_check : SomeAnswer (λ a. IsCheckedAt table behind m a)
@@ -109,7 +108,7 @@ module _ (table : List ℕ) (behind : List (List ℕ)) (m : Files) where
 
   -- and only one
   pub opens_judged : (v : Verdict) → (h : IsJudgedAtlas (m table) helds v) → opening ≡ Ok h.contents
-  opens_judged v h = ap (opened (table_format Atlas)) h.there ∙ h.opens
+  opens_judged v h = ap (opened own_format) h.there ∙ h.opens
 
   module _ (v w : Verdict) (h : IsJudgedAtlas (m table) helds v)
       (k : IsJudgedAtlas (m table) helds w) where
@@ -126,15 +125,15 @@ module _ (table : List ℕ) (behind : List (List ℕ)) (m : Files) where
     pub same_verdict : w ≡ v
     same_verdict =
         let rules = h.contents.rules in
-        let value = atlas_value rules (backs_in h.tables) in
+        let value = value_over (leans h.bytes) rules (backs_in h.tables) in
         let moved : IsVerdict rules value (kept_codes h.contents h.bytes) w =
-        subst (λ (l : List TableBytes). IsVerdict rules (atlas_value rules (backs_in l))
+        subst (λ (l : List TableBytes). IsVerdict rules (value_over (leans h.bytes) rules (backs_in l))
         (kept_codes h.contents h.bytes) w) same_tables
-        (subst (λ (c : Contents). IsVerdict c.rules (atlas_value c.rules (backs_in k.tables))
-        (kept_codes c h.bytes) w) one_contents
+        (subst (λ (c : Contents). IsVerdict c.rules
+        (value_over (leans h.bytes) c.rules (backs_in k.tables)) (kept_codes c h.bytes) w) one_contents
         (subst (λ (l : List ℕ). IsVerdict k.contents.rules
-        (atlas_value k.contents.rules (backs_in k.tables)) (kept_codes k.contents l) w) same_bytes
-        k.judged)) in
+        (value_over (leans l) k.contents.rules (backs_in k.tables)) (kept_codes k.contents l) w)
+        same_bytes k.judged)) in
         one_verdict rules value (table_exact rules value) (kept_codes h.contents h.bytes) w v moved
         h.judged
 

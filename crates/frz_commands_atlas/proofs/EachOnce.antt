@@ -12,9 +12,9 @@ use Rattle.frz_index.proofs.Lemmas.{member_of, of_member}
 use Rattle.frz_game.specs.Numbers.{is_member}
 use Rattle.frz_store.specs.Files.{Files}
 use Rattle.frz_table.specs.declared.fault.TableFault.{TableFault}
-use Rattle.frz_table.specs.Opening.{Contents, opened, table_format}
+use Rattle.frz_table.specs.Opening.{Contents, opened, own_format}
 use Rattle.frz_table.proofs.Lemmas.{opened_missing}
-use Rattle.frz_atlas.specs.Behind.{kind_held, kind_of}
+use Rattle.frz_atlas_prelude.proofs.Lemmas.{own_refused_means}
 use Rattle.frz_answer.specs.Answers.{Answer, SomeAnswer, says}
 use Rattle.frz_answer.specs.Lawful.{HasOneAnswer, IsLawful}
 use Rattle.frz_answer.specs.Words.{two_words_of}
@@ -71,7 +71,7 @@ one_by (Err fault) bytes p given other h k = k ∙ sym h
 
 pub some_rows : (held : Option (List ℕ)) (p : Board) → (given : Given) × AreRowsOf held p given
 some_rows held p =
-    some_by (opened (table_format (kind_held held)) held) (unwrap_or held []) p
+    some_by (opened own_format held) (unwrap_or held []) p
 
 one_each : (table : List ℕ) (p : Board) (files : Files) → HasOneAnswer (IsEachAt table p files)
 one_each table p files =
@@ -79,7 +79,7 @@ one_each table p files =
       answer_by p some.0 files,
       record { given = some.0; rows = some.1; told = refl },
       λ b h. h.told ∙ ap (λ (g : Given). answer_by p g files)
-          (one_by (opened (table_format (kind_held (files table))) (files table))
+          (one_by (opened own_format (files table))
           (unwrap_or (files table) []) p some.0 h.given some.1 h.rows),
     )
 
@@ -125,7 +125,7 @@ module _ (p : Board) (files : Files) where
       record {
         a = answer_by p some.0 files;
         answer = record { given = some.0; rows = some.1; told = refl };
-        text = given_said (opened (table_format (kind_held (files table))) (files table))
+        text = given_said (opened own_format (files table))
             (unwrap_or (files table) []) some.0 some.1;
       }
 
@@ -135,7 +135,7 @@ module _ (table : List ℕ) (p : Board) (files : Files) where
   Means given = MeansEach table p files (answer_by p given files)
 
   means_inside : (bytes : List ℕ) → files table ≡ Some bytes → (contents : Contents)
-      → opened (table_format (kind_of bytes)) (Some bytes) ≡ Ok contents
+      → opened own_format (Some bytes) ≡ Ok contents
       → (inside : Bool) → is_member contents.rules.groups p ≡ inside → (given : Given)
       → ByTest contents bytes p inside given → Means given
   means_inside bytes there contents opens true e (Ok rows) h = record {
@@ -169,7 +169,7 @@ module _ (table : List ℕ) (p : Board) (files : Files) where
 
   means_opened : (bytes : List ℕ) → files table ≡ Some bytes
       → (x : Result Contents TableFault)
-      → opened (table_format (kind_of bytes)) (Some bytes) ≡ x → (given : Given)
+      → opened own_format (Some bytes) ≡ x → (given : Given)
       → AreRowsBy x bytes p given → Means given
   means_opened bytes there (Ok contents) e given h =
       means_inside bytes there contents e (is_member contents.rules.groups p) refl given h
@@ -177,19 +177,19 @@ module _ (table : List ℕ) (p : Board) (files : Files) where
       subst Means (sym h) (record {
         same = refl;
         untaken = refl;
-        says = refused_means (kind_of bytes) table files (MeansEachBy table p files)
-            (λ text tells. (bytes, there, tells)) bytes there fault e;
+        says = own_refused_means table files (MeansEachBy table p files)
+            (λ text tells. tells) bytes there fault e;
       })
 
   means_held : (held : Option (List ℕ)) → files table ≡ held → (given : Given)
       → AreRowsOf held p given → Means given
   means_held None e given h =
-      let missing = opened_missing (table_format (kind_held None)) in
+      let missing = opened_missing own_format in
       subst Means
       (sym (subst (λ (x : Result Contents TableFault). AreRowsBy x [] p given) missing h))
       (record { same = refl; untaken = refl; says = e })
   means_held (Some bytes) e given h =
-      means_opened bytes e (opened (table_format (kind_of bytes)) (Some bytes)) refl given h
+      means_opened bytes e (opened own_format (Some bytes)) refl given h
 
   each_means : (a : Answer) → IsEachAt table p files a → MeansEach table p files a
   each_means a h =

@@ -5,8 +5,7 @@ use Rattle.frz_board.specs.Boards.{Board}
 use Rattle.frz_game.specs.Numbers.{is_member}
 use Rattle.frz_store.specs.Files.{Files}
 use Rattle.frz_table.specs.declared.fault.TableFault.{TableFault}
-use Rattle.frz_table.specs.Opening.{Contents, opened, table_format}
-use Rattle.frz_atlas.specs.Behind.{kind_held}
+use Rattle.frz_table.specs.Opening.{Contents, opened, own_format}
 use Rattle.frz_answer.specs.declared.status.Status.{Status}
 use Rattle.frz_answer.specs.declared.status.Status.TheVariants.{Success, Table, Outside, Missing}
 use Rattle.frz_answer.specs.Statuses.{OneOf}
@@ -46,7 +45,7 @@ module _ (why : Refusal) where
 pub own_stop : (held : Option (List ℕ)) (p : Board) (stop : Stop) → GivesRows held p (Err stop)
     → (why : Refusal) → stop ≡ Refused why → OneOf (status_of why) own
 own_stop held p stop due why is =
-    of_file why (opened (table_format (kind_held held)) held) _ p
+    of_file why (opened own_format held) _ p
     (subst (λ (s : Stop). GivesRows held p (Err s)) is due)
 
 -- where no rows were read

@@ -14,7 +14,7 @@ use Rattle.frz_atlas.specs.declared.fault.BackFault.{BackFault}
 use Rattle.frz_atlas.specs.declared.fault.BackFault.TheVariants.{Refused, Wrong}
 use Rattle.frz_atlas_prelude.specs.BackLines.{back_status}
 use Rattle.frz_atlas_prelude.specs.RulesRefusals.{Refuses, of_back, of_rules}
-use Rattle.frz_atlas_prelude.specs.Names.{build_names_of, has_twice, table_names_of}
+use Rattle.frz_atlas_prelude.specs.Names.{build_names_of, file_names_of, has_twice}
 use Rattle.frz_commands_atlas.specs.Building.{IsBuiltAt, MeansBuild, MeansByStatus, build_words, building_at, made, no_back, no_rules}
 use Rattle.frz_commands_atlas.specs.CheckMeans.{check_words, checking_at}
 use Rattle.frz_commands_atlas.proofs.BuildOnce.{one_built}
@@ -73,6 +73,6 @@ pub check_lawful : (words : List (List ℕ)) → IsLawful (check_words words)
 check_lawful words =
     taking_lawful
     (λ (names : List ℕ × List (List ℕ)). unless (has_twice words) (checking_at names.0 names.1))
-    (table_names_of words)
+    (file_names_of words)
     (λ names. unless_lawful (has_twice words) (checking_at names.0 names.1)
     (checking_lawful names.0 names.1))

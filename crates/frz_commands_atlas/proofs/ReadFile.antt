@@ -6,7 +6,7 @@ use Rattle.frz_board.specs.declared.man.Colour.TheVariants.{White, Black}
 use Rattle.frz_store.specs.Files.{Files}
 use Rattle.frz_rules.proofs.Lemmas.{text_sound}
 use Rattle.frz_table.specs.Layout.{codes_at, file_of, magic_of}
-use Rattle.frz_table.specs.Opening.{contents_of, opened, table_format}
+use Rattle.frz_table.specs.Opening.{contents_of, opened, own_format, table_format}
 use Rattle.frz_table.specs.Possible.{MayHold}
 use Rattle.frz_table.specs.Tables.{Table, table_size}
 use Rattle.frz_table.proofs.Lemmas.{belongs, file_bytes, magic_bytes, magic_long, opens_by, text_bytes, written_belongs, written_is_loaded}
@@ -20,7 +20,7 @@ use Rattle.frz_ways.specs.Kept.{told_codes, MayRead}
 pub record HoldsRead (files : Option Files) (table : Table) (white black : List ℕ) : Type 0 where
   pub bytes : List ℕ
   pub may : MayHold files table.name (Some bytes)
-  pub opens : opened (table_format (kind_of bytes)) (Some bytes) ≡ Ok (contents_of table)
+  pub opens : opened own_format (Some bytes) ≡ Ok (contents_of table)
   pub white_is : kept_codes (contents_of table) bytes White ≡ white
   pub black_is : kept_codes (contents_of table) bytes Black ≡ black
 
@@ -49,7 +49,7 @@ holds_read None table white black opens may_white may_black =
     let size = table_size table in
     let magic = magic_of kind in
     let file = file_of magic table.text size white black in
-    let is = belongs (table_format kind) opens.bytes (contents_of table) opens.opens in
+    let is = belongs own_format opens.bytes (contents_of table) opens.opens in
     let short = is.short in
     let few = (text_sound table.text table.rules is.read).size in
     let codes = written_is_loaded magic table.text size white black (magic_long kind) may_white.0

@@ -5,26 +5,29 @@ use Rattle.std.specs.Option.{unwrap_or}
 use Rattle.frz_board.specs.Boards.{Board}
 use Rattle.frz_board.specs.declared.man.Colour.{Colour}
 use Rattle.frz_board.specs.declared.man.Colour.TheVariants.{White, Black}
+use Rattle.frz_exits.specs.Books.{value_by}
 use Rattle.frz_graph.specs.EntryCodes.{of_side}
 use Rattle.frz_sets.specs.Views.{RuleLines}
 use Rattle.frz_sets.specs.declared.exit.Value.{Value}
 use Rattle.frz_store.specs.Files.{Files}
 use Rattle.frz_store.specs.Told.{StoreTold, SourceTold, SinkTold, StoreQuiet}
 use Rattle.frz_table.specs.declared.fault.TableFault.{TableFault}
-use Rattle.frz_table.specs.declared.kind.FileKind.TheVariants.{Atlas}
-use Rattle.frz_table.specs.Opening.{Contents, contents_of, opened, table_format}
+use Rattle.frz_table.specs.declared.kind.FileKind.{FileKind}
+use Rattle.frz_table.specs.declared.kind.FileKind.TheVariants.{Plain, Chained, Atlas}
+use Rattle.frz_table.specs.Opening.{Contents, contents_of, opened, own_format}
 use Rattle.frz_table.specs.Tables.{table_size}
 use Rattle.frz_check.specs.Kept.{kept_codes, opened_size}
 use Rattle.frz_backs.specs.Books.{Back}
 use Rattle.frz_backs.specs.FileOn.{loaded_back}
-use Rattle.frz_backs.specs.Loaded.{link_loaded}
+use Rattle.frz_backs.specs.Links.{Link, value_over}
+use Rattle.frz_backs.specs.Loaded.{leans_as, link_loaded}
 use Rattle.frz_backs.specs.Values.{atlas_value}
 use Rattle.frz_backs.proofs.Lemmas.{loaded_backs}
-use Rattle.frz_atlas.specs.Behind.{TableBytes}
+use Rattle.frz_atlas.specs.Behind.{TableBytes, backs_in}
 use Rattle.frz_atlas.specs.Causes.{HasAtlasCause}
-use Rattle.frz_atlas.specs.Checking.{own_size}
+use Rattle.frz_atlas.specs.Costs.{size_held}
 use Rattle.frz_atlas.specs.Held.{all_held}
-use Rattle.frz_atlas.specs.Loading.{opened_all}
+use Rattle.frz_atlas.specs.Loading.{opened_all, opened_own}
 use Rattle.frz_atlas.specs.Reading.{IsUnopened, LoadsAtlas, RefusesToRead, WithinReading}
 use Rattle.frz_atlas.specs.declared.fault.AtlasFault.{AtlasFault}
 use Rattle.frz_atlas.specs.declared.fault.AtlasFault.TheVariants.{Rules, Table, Back as BackAt, Failed, NoMemory}
@@ -54,35 +57,52 @@ may_report : (table : List ℕ) (behind : List (List ℕ)) → MayReport (report
 may_report table behind =
     record { store = refl; memory = refl; speaks = refl; writes = refl; own = refl }
 
--- by equal rules, equal tables and equal codes
-pub moved_report : (r s book : RuleLines) (a b : List Back)
+-- by equal rules, values and codes
+pub moved_report : (r s : RuleLines) (value : Board → Value)
     (white black white_slice black_slice : List ℕ) (result : Result Totals ReportFault)
-    (out after : SinkTold) → r ≡ s → book ≡ s → a ≡ b → white_slice ≡ white → black_slice ≡ black
-    → WritesReport r (λ q. atlas_value book a q) (λ side. of_side side white_slice black_slice)
-    result out after
-    → WritesReport s (atlas_value s b) (λ side. of_side side white black) result out after
-moved_report r s book a b white black white_slice black_slice result out after rules books backs
-    white_is black_is h =
-    subst (λ (l : List ℕ). WritesReport s (atlas_value s b) (λ side. of_side side white l) result
-    out after) black_is
-    (subst (λ (l : List ℕ). WritesReport s (atlas_value s b)
-    (λ side. of_side side l black_slice) result out after) white_is
-    (subst (λ (l : List Back). WritesReport s (λ q. atlas_value s l q)
-    (λ side. of_side side white_slice black_slice) result out after) backs
-    (subst (λ (x : RuleLines). WritesReport s (λ q. atlas_value x a q)
-    (λ side. of_side side white_slice black_slice) result out after) books
-    (subst (λ (x : RuleLines). WritesReport x (λ q. atlas_value book a q)
-    (λ side. of_side side white_slice black_slice) result out after) rules h))))
+    (out after : SinkTold) → r ≡ s → white_slice ≡ white → black_slice ≡ black
+    → WritesReport r value (λ side. of_side side white_slice black_slice) result out after
+    → WritesReport s value (λ side. of_side side white black) result out after
+moved_report r s value white black white_slice black_slice result out after rules white_is black_is
+    h =
+    subst (λ (l : List ℕ). WritesReport s value (λ side. of_side side white l) result out after)
+    black_is
+    (subst (λ (l : List ℕ). WritesReport s value (λ side. of_side side l black_slice) result out
+    after) white_is
+    (subst (λ (x : RuleLines). WritesReport x value (λ side. of_side side white_slice black_slice)
+    result out after) rules h))
+
+-- by a book of tables, where the kind is one that leans on them
+pub report_leaning : (kind : FileKind) (r s : RuleLines) (a b : List Back) (codes : Colour → List ℕ)
+    (result : Result Totals ReportFault) (out after : SinkTold) → Atlas ≡ kind → r ≡ s → a ≡ b
+    → WritesReport s (λ q. atlas_value r a q) codes result out after
+    → WritesReport s (value_over (leans_as kind) s b) codes result out after
+report_leaning kind r s a b codes result out after is rules backs h =
+    subst (λ (k : FileKind). WritesReport s (value_over (leans_as k) s b) codes result out after) is
+    (subst (λ (l : List Back). WritesReport s (λ q. atlas_value s l q) codes result out after) backs
+    (subst (λ (x : RuleLines). WritesReport s (λ q. atlas_value x a q) codes result out after) rules
+    h))
+
+-- by exit lines alone, where it does not
+pub report_plain : (kind : FileKind) (r s : RuleLines) (b : List Back) (codes : Colour → List ℕ)
+    (result : Result Totals ReportFault) (out after : SinkTold) → (kind ≡ Atlas → ⊥) → r ≡ s
+    → WritesReport s (λ q. value_by r q) codes result out after
+    → WritesReport s (value_over (leans_as kind) s b) codes result out after
+report_plain Plain r s b codes result out after other rules h =
+    subst (λ (x : RuleLines). WritesReport s (λ q. value_by x q) codes result out after) rules h
+report_plain Chained r s b codes result out after other rules h =
+    subst (λ (x : RuleLines). WritesReport s (λ q. value_by x q) codes result out after) rules h
+report_plain Atlas r s b codes result out after other rules h = absurd (other refl)
 
 -- the answer by what the names hold
 module _ (table : List ℕ) (behind : List (List ℕ)) (files : Files) (held : Option (List ℕ))
     (helds : List (Option (List ℕ))) (here : files table ≡ held)
     (others : map files behind ≡ helds) where
   answer_by : (x : Result Contents TableFault) (y : Result (List TableBytes) (ℕ × TableFault))
-      → opened (table_format Atlas) held ≡ x → opened_all helds ≡ y
+      → opened own_format held ≡ x → opened_all helds ≡ y
       → report_at table behind files ≡ report_by x (unwrap_or held []) y files
   answer_by x y opens are =
-      ap (λ (h : Option (List ℕ)). report_by (opened (table_format Atlas) h) (unwrap_or h [])
+      ap (λ (h : Option (List ℕ)). report_by (opened own_format h) (unwrap_or h [])
       (opened_all (map files behind)) files) here
       ∙ ap (λ (r : Result Contents TableFault). report_by r (unwrap_or held [])
       (opened_all (map files behind)) files) opens
@@ -102,7 +122,7 @@ module _ (table : List ℕ) (behind : List (List ℕ)) (apart : has_twice (table
 
   reading_spends : (held : Option (List ℕ)) (helds : List (Option (List ℕ)))
       (h : Holds old.files table behind held helds) → WithinReading held helds old new
-      → now ≤ before + own_size held
+      → now ≤ before + size_held held
       → WithinCosts (report_costs (h.all.files table) (map h.all.files behind)) (spent start)
       (spent mid)
   reading_spends held helds h within steps =
@@ -119,7 +139,7 @@ module _ (table : List ℕ) (behind : List (List ℕ)) (apart : has_twice (table
     contents = contents_of given.table.table
 
     abbrev value : Board → Value
-    value = value_behind contents l.tables
+    value = value_behind contents l.bytes l.tables
 
     abbrev kept : Colour → List ℕ
     kept = kept_codes contents l.bytes
@@ -144,15 +164,17 @@ module _ (table : List ℕ) (behind : List (List ℕ)) (apart : has_twice (table
     -- what was written by the loaded codes is the report by those in the file
     by_file : (result : Result Totals ReportFault) (after : SinkTold)
         → WritesReport contents.rules
-        (atlas_value contents.rules (map loaded_back given.backs.items))
+        (value_over (leans_as given.table.table.kind) contents.rules (map loaded_back given.backs.items))
         (λ side. of_side side given.table.white.items given.table.black.items) result out after
         → WritesReport contents.rules value kept result out after
     by_file result after h =
         subst (λ (c : Colour → List ℕ). WritesReport contents.rules value c result out after)
         (λ j side. sides_are_kept side j)
-        (subst (λ (b : Back). WritesReport contents.rules value
-        (λ side. of_side side b.white b.black) result out after) l.keeps
-        (subst (λ (b : List Back). WritesReport contents.rules (atlas_value contents.rules b)
+        (subst (λ (x : Link). WritesReport contents.rules
+        (value_over x.leans contents.rules (backs_in l.tables))
+        (λ side. of_side side x.back.white x.back.black) result out after) l.keeps
+        (subst (λ (b : List Back). WritesReport contents.rules
+        (value_over (leans_as given.table.table.kind) contents.rules b)
         (λ side. of_side side given.table.white.items given.table.black.items) result out after)
         (sym (loaded_backs given.backs.items)
         ∙ kept_backs (map link_loaded given.backs.items) l.tables l.all_keep) h))
@@ -165,7 +187,7 @@ module _ (table : List ℕ) (behind : List (List ℕ)) (apart : has_twice (table
         → HasAtlasCause {T = LoadedAtlas} (Ok given) old new
         → (result ≡ Err report_faults.Store → ⊥)
         → WritesReport contents.rules
-        (atlas_value contents.rules (map loaded_back given.backs.items))
+        (value_over (leans_as given.table.table.kind) contents.rules (map loaded_back given.backs.items))
         (λ side. of_side side given.table.white.items given.table.black.items) result out after
         → Ran (reporting_at table behind) (end_by result) start (world new input after now)
     report_is_told result after fine never h =
@@ -193,7 +215,7 @@ module _ (table : List ℕ) (behind : List (List ℕ)) (apart : has_twice (table
       costs = refused_within_costs;
     }
 
-    may_end : (f : AtlasFault) → IsUnopened (opened (table_format Atlas)) r.held r.helds f
+    may_end : (f : AtlasFault) → IsUnopened opened_own r.held r.helds f
         → HasAtlasCause {T = LoadedAtlas} (Err f) old new
         → MayEndAt (reporting_at table behind) f start mid
     may_end (Rules f) refused cause = absurd refused
@@ -209,7 +231,7 @@ module _ (table : List ℕ) (behind : List (List ℕ)) (apart : has_twice (table
     may_end Failed refused cause = (refl, cause)
     may_end NoMemory refused cause = refl
 
-    answers_at : (f : AtlasFault) → IsUnopened (opened (table_format Atlas)) r.held r.helds f → (files : Files)
+    answers_at : (f : AtlasFault) → IsUnopened opened_own r.held r.helds f → (files : Files)
         (left : List ℕ) → Agrees start files left
         → AnswersAt (reporting_at table behind) f files left start mid
     answers_at (Rules f) refused files left agrees = absurd refused

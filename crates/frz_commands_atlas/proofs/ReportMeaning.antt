@@ -1,5 +1,5 @@
 -- What the answers of `report` mean, and that it has one answer.
-use Rattle.std.proofs.Common.{◌≡◌, refl, sym, ap, subst, ◌∙◌, ℕ, List, [], Option, Some, None, Result, Ok, Err}
+use Rattle.std.proofs.Common.{◌≡◌, refl, sym, ap, subst, ◌∙◌, ℕ, Bool, true, false, List, [], Option, Some, None, Result, Ok, Err}
 use Rattle.std.specs.Prelude.{map}
 use Rattle.std.specs.Option.{unwrap_or}
 use Rattle.frz_exits.specs.Books.{value_by}
@@ -7,16 +7,15 @@ use Rattle.frz_game.specs.Values.{AreTrueExits}
 use Rattle.frz_store.specs.Files.{Files}
 use Rattle.frz_table.specs.declared.fault.TableFault.{TableFault}
 use Rattle.frz_table.specs.declared.fault.TableFault.TheVariants as table_faults
-use Rattle.frz_table.specs.declared.kind.FileKind.TheVariants.{Atlas}
-use Rattle.frz_table.specs.Opening.{Contents, opened, table_format}
+use Rattle.frz_table.specs.Opening.{Contents, opened, own_format}
 use Rattle.frz_table.proofs.Lemmas.{opened_missing}
 use Rattle.frz_check.specs.Kept.{kept_codes}
 use Rattle.frz_check.proofs.Lemmas.{bound_kept}
 use Rattle.frz_backs.specs.Books.{Back}
-use Rattle.frz_backs.specs.Links.{AreTrueLines}
+use Rattle.frz_backs.specs.Links.{AreTrueLines, value_over}
 use Rattle.frz_backs.specs.Values.{atlas_value}
 use Rattle.frz_backs.proofs.Lemmas.{exits_over_true}
-use Rattle.frz_atlas.specs.Behind.{AreJudged, TableBytes, link_of}
+use Rattle.frz_atlas.specs.Behind.{AreJudged, TableBytes, backs_in, leans, link_of}
 use Rattle.frz_atlas.specs.Loading.{opened_all}
 use Rattle.frz_atlas.specs.declared.fault.BackFault.TheVariants.{Refused}
 use Rattle.frz_atlas.proofs.Lemmas.{judged_exact, links_backs}
@@ -28,7 +27,7 @@ use Rattle.frz_answer.specs.Words.{unless}
 use Rattle.frz_answer.proofs.Lemmas.{one_answer, taking_lawful, unless_lawful}
 use Rattle.frz_prelude.specs.declared.refused.Refused.TheVariants as refusals
 use Rattle.frz_prelude.proofs.Lemmas.{by_table_status, refusal_said}
-use Rattle.frz_atlas_prelude.specs.Names.{has_twice, table_names_of}
+use Rattle.frz_atlas_prelude.specs.Names.{file_names_of, has_twice}
 use Rattle.frz_atlas_prelude.specs.TableRefusals.{of_back, of_table}
 use Rattle.frz_atlas_prelude.proofs.Lemmas.{back_line_not_empty, result_is_not_both}
 use Rattle.frz_commands_atlas.specs.Reporting.{MeansReport, MeansStatus, report_at, report_behind, report_by, report_words, reporting_at, value_behind}
@@ -40,7 +39,7 @@ Opened = Result (List TableBytes) (ℕ × TableFault)
 some_report : (x : Result Contents TableFault) (bytes : List ℕ) (behind : Opened) (files : Files)
     → (report_by x bytes behind files).text ≡ [] → ⊥
 some_report (Ok contents) bytes (Ok tables) files =
-    report_said contents.rules (value_behind contents tables) (kept_codes contents bytes)
+    report_said contents.rules (value_behind contents bytes tables) (kept_codes contents bytes)
 some_report (Ok contents) bytes (Err refused) files = back_line_not_empty refused.0
     (Refused refused.1)
 some_report (Err fault) bytes behind files = refusal_said (refusals.Table fault)
@@ -50,18 +49,23 @@ module _ (table : List ℕ) (behind : List (List ℕ)) (files : Files) where
   some_at = record {
     a = report_at table behind files;
     answer = refl;
-    text = some_report (opened (table_format Atlas) (files table)) (unwrap_or (files table) [])
+    text = some_report (opened own_format (files table)) (unwrap_or (files table) [])
         (opened_all (map files behind)) files;
   }
 
   -- where the lines of all texts are true, so are the exits over exact tables
-  exits_true : (contents : Contents) (tables : List TableBytes) → AreJudged tables
+  exits_true : (contents : Contents) (bytes : List ℕ) (tables : List TableBytes) → AreJudged tables
       → AreTrueExits contents.rules (value_by contents.rules) → AreTrueLines (map link_of tables)
-      → AreTrueExits contents.rules (value_behind contents tables)
-  exits_true contents tables judged own lines =
-      subst (λ (backs : List Back). AreTrueExits contents.rules (atlas_value contents.rules backs))
-      (links_backs tables)
-      (exits_over_true contents.rules (map link_of tables) (judged_exact tables judged) lines own)
+      → AreTrueExits contents.rules (value_behind contents bytes tables)
+  exits_true contents bytes tables judged own lines = by_kind (leans bytes)
+    where
+      by_kind : (b : Bool)
+          → AreTrueExits contents.rules (value_over b contents.rules (backs_in tables))
+      by_kind false = own
+      by_kind true =
+          subst (λ (backs : List Back). AreTrueExits contents.rules (atlas_value contents.rules backs))
+          (links_backs tables)
+          (exits_over_true contents.rules (map link_of tables) (judged_exact tables judged) lines own)
 
   module _ (a : Answer) where
     means_so : (status : Status) (text : List ℕ) → a ≡ says status text files
@@ -74,7 +78,7 @@ module _ (table : List ℕ) (behind : List (List ℕ)) (files : Files) where
     }
 
     by_behind : (bytes : List ℕ) (contents : Contents) → files table ≡ Some bytes
-        → opened (table_format Atlas) (Some bytes) ≡ Ok contents → (x : Opened)
+        → opened own_format (Some bytes) ≡ Ok contents → (x : Opened)
         → opened_all (map files behind) ≡ x → a ≡ report_behind contents bytes x files
         → MeansReport table behind files a
     by_behind bytes contents there opens (Ok tables) are told =
@@ -86,12 +90,12 @@ module _ (table : List ℕ) (behind : List (List ℕ)) (files : Files) where
           all_open = are;
           told = ap (λ (x : Answer). x.text) told;
           where_exact = λ kept side p inside.
-              bound_kept (value_behind contents tables) contents bytes kept side p inside;
-          true_exits = exits_true contents tables;
+              bound_kept (value_behind contents bytes tables) contents bytes kept side p inside;
+          true_exits = exits_true contents bytes tables;
         })
     by_behind bytes contents there opens (Err refused) are told =
         let refuses = of_back (record {
-          opens = (contents, ap (opened (table_format Atlas)) there ∙ opens);
+          opens = (contents, ap (opened own_format) there ∙ opens);
           place = refused.0;
           fault = refused.1;
           refused = are;
@@ -101,17 +105,17 @@ module _ (table : List ℕ) (behind : List (List ℕ)) (files : Files) where
         refuses refuses)
 
     by_held : (held : Option (List ℕ)) → files table ≡ held → (contents : Contents)
-        → opened (table_format Atlas) held ≡ Ok contents
+        → opened own_format held ≡ Ok contents
         → a ≡ report_behind contents (unwrap_or held []) (opened_all (map files behind)) files
         → MeansReport table behind files a
     by_held None there contents opens told =
         absurd (result_is_not_both _ contents table_faults.Missing opens
-        (opened_missing (table_format Atlas)))
+        (opened_missing own_format))
     by_held (Some bytes) there contents opens told =
         by_behind bytes contents there opens (opened_all (map files behind)) refl told
 
     by_opening : (x : Result Contents TableFault)
-        → opened (table_format Atlas) (files table) ≡ x
+        → opened own_format (files table) ≡ x
         → a ≡ report_by x (unwrap_or (files table) []) (opened_all (map files behind)) files
         → MeansReport table behind files a
     by_opening (Ok contents) opens told = by_held (files table) refl contents opens told
@@ -121,7 +125,7 @@ module _ (table : List ℕ) (behind : List (List ℕ)) (files : Files) where
         refuses)
 
     report_means : a ≡ report_at table behind files → MeansReport table behind files a
-    report_means told = by_opening (opened (table_format Atlas) (files table)) refl told
+    report_means told = by_opening (opened own_format (files table)) refl told
 
 reporting_lawful : (table : List ℕ) (behind : List (List ℕ))
     → IsLawful (reporting_at table behind)
@@ -134,6 +138,6 @@ pub report_lawful : (words : List (List ℕ)) → IsLawful (report_words words)
 report_lawful words =
     taking_lawful
     (λ (names : List ℕ × List (List ℕ)). unless (has_twice words) (reporting_at names.0 names.1))
-    (table_names_of words)
+    (file_names_of words)
     (λ names. unless_lawful (has_twice words) (reporting_at names.0 names.1)
     (reporting_lawful names.0 names.1))

@@ -20,13 +20,12 @@ use Rattle.frz_game.proofs.Lemmas.{arms_there}
 use Rattle.frz_store.specs.Files.{Files}
 use Rattle.frz_store.specs.Told.{StoreTold}
 use Rattle.frz_table.specs.declared.fault.TableFault.{TableFault}
-use Rattle.frz_table.specs.declared.fault.TableFault.TheVariants.{Missing, Magic, Truncated, Extra, Rules, Size, Failed, NoMemory}
-use Rattle.frz_table.specs.Opening.{Contents, Refuses, contents_of, opened, table_format}
+use Rattle.frz_table.specs.declared.fault.TableFault.TheVariants.{Missing, Magic, Other, Truncated, Extra, Rules, Size, Failed, NoMemory}
+use Rattle.frz_table.specs.Opening.{Contents, Refuses, contents_of, opened, own_format}
 use Rattle.frz_table.specs.Possible.{MayHold, held_text}
 use Rattle.frz_table.specs.Tables.{Table, table_size}
 use Rattle.frz_table.proofs.Lemmas.{belongs, text_kept}
 use Rattle.frz_check.specs.Kept.{kept_codes}
-use Rattle.frz_atlas.specs.Behind.{kind_held, kind_of}
 use Rattle.frz_atlas.specs.Causes.{HasFileCause}
 use Rattle.frz_atlas.specs.Opening.{MayOpenOwn, MayRefuseOwn}
 use Rattle.frz_ways.specs.Costs.{arms_reads}
@@ -118,17 +117,18 @@ rows_where name p result old new held there due asked calls =
 
 -- the table was not opened
 refusal_due : (held : Option (List ℕ)) (p : Board) (fault : TableFault)
-    → opened (table_format (kind_held held)) held ≡ Err fault
+    → opened own_format held ≡ Err fault
     → AreRowsOf held p (Err (refusals.Table fault))
 refusal_due held p fault e =
     subst (λ (x : Result Contents TableFault).
     AreRowsBy x (unwrap_or held []) p (Err (refusals.Table fault))) (sym e) refl
 
 fault_due : (held : Option (List ℕ)) (p : Board) (fault : TableFault)
-    → Refuses (opened (table_format (kind_held held)) held) fault
+    → Refuses (opened own_format held) fault
     → GivesRows held p (Err (stop_of_table fault))
 fault_due held p Missing e = refusal_due held p Missing e
 fault_due held p Magic e = refusal_due held p Magic e
+fault_due held p (Other other) e = refusal_due held p (Other other) e
 fault_due held p (Truncated length due) e = refusal_due held p (Truncated length due) e
 fault_due held p (Extra length due) e = refusal_due held p (Extra length due) e
 fault_due held p (Rules fault) e = refusal_due held p (Rules fault) e
@@ -150,6 +150,7 @@ pub file_stops : (T A : Type 0) (fault : TableFault) (old new : StoreTold)
     → HasFileCause {T = T} (Err fault) old new → HasItsCause {A = A} (Err (stop_of_table fault)) old new
 file_stops T A Missing old new h = h
 file_stops T A Magic old new h = h
+file_stops T A (Other other) old new h = h
 file_stops T A (Truncated length due) old new h = h
 file_stops T A (Extra length due) old new h = h
 file_stops T A (Rules fault) old new h = h
@@ -166,7 +167,7 @@ no_rows table p told (Err (Fault fault)) none met = tt
 
 -- by the bytes of an open table
 module _ (contents : Contents) (bytes : List ℕ) (p : Board)
-    (opens : opened (table_format (kind_of bytes)) (Some bytes) ≡ Ok contents) where
+    (opens : opened own_format (Some bytes) ≡ Ok contents) where
   given_as : (given : Result (List Row) Refusal) → AreRowsIn contents bytes p given
       → AreRowsOf (Some bytes) p given
   given_as given h =
@@ -194,7 +195,7 @@ module _ (contents : Contents) (bytes : List ℕ) (p : Board)
   text_long : length (held_text (Some bytes)) ≡ length contents.text
   text_long =
       ap (length {A = ℕ}) (text_kept _ _ _ bytes
-      (belongs (table_format (kind_of bytes)) bytes contents opens).file)
+      (belongs own_format bytes contents opens).file)
 
   staying_by_contents : staying (Some bytes) p ≡ staying_in contents p
   staying_by_contents = ap (λ (x : Result Contents TableFault). staying_by x p) opens
@@ -267,4 +268,4 @@ module _ (p : Board) (rows : List Row) where
   legal_by (Err fault) bytes h = absurd (cc)
 
   pub legal_given : (held : Option (List ℕ)) → AreRowsOf held p (Ok rows) → AreLegal
-  legal_given held h = legal_by (opened (table_format (kind_held held)) held) _ h
+  legal_given held h = legal_by (opened own_format held) _ h

@@ -1,5 +1,5 @@
--- What `build RULES TABLE BACK ..` is to do: the table file of the rules over the tables behind it
--- is written under the name TABLE.
+-- What `build RULES TABLE BACK ..` is to do: the table file of the rules over the BACKs, or the plain
+-- one where there are none, is written under the name TABLE.
 use Rattle.std.specs.Prelude.{◌≡◌, ℕ, ◌+◌, ◌*◌, List, [], ◌∷◌, map, sum_by, true, false, Option, Some, Result, Ok}
 use Rattle.frz_store.specs.Files.{Files, put}
 use Rattle.frz_answer.specs.declared.status.Status.{Status}

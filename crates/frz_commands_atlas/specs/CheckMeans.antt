@@ -14,8 +14,8 @@ use Rattle.frz_answer.specs.Words.{taking, unless}
 use Rattle.frz_prelude.specs.WrongLines.{wrong_line}
 use Rattle.frz_atlas.specs.Behind.{TableBytes, backs_in}
 use Rattle.frz_atlas.specs.Checking.{sizes_in}
-use Rattle.frz_atlas.specs.FileOver.{IsFileOver}
-use Rattle.frz_atlas_prelude.specs.Names.{has_twice, table_names_of}
+use Rattle.frz_atlas.specs.FileOver.{IsOwnFile}
+use Rattle.frz_atlas_prelude.specs.Names.{file_names_of, has_twice}
 use Rattle.frz_atlas_prelude.specs.TableRefusals.{RefusesBehind, RefusesTable}
 use Rattle.frz_atlas_prelude.specs.Tables.{AreTablesIn}
 use Rattle.frz_commands_atlas.specs.AtlasHeadline.{AtlasHeadline}
@@ -55,7 +55,7 @@ MeansStatus table behind files a statuses.Missing = TellsFault table behind file
 MeansStatus table behind files a status = ⊥
 
 -- the BACKs hold tables that are exact, each over those before it, and TABLE holds the one file of
--- an accepted text over all of them
+-- its kind of an accepted text, over all of them where it leans on them
 pub record HoldsAtlas (table : List ℕ) (behind : List (List ℕ)) (files : Files) : Type 0 where
   pub tables : List TableBytes
   pub behind_it : AreTablesIn (map files behind) tables
@@ -64,7 +64,7 @@ pub record HoldsAtlas (table : List ℕ) (behind : List (List ℕ)) (files : Fil
   pub text : List ℕ
   pub rules : RuleLines
   pub accepted : rules_of text ≡ Ok rules
-  pub one_file : IsFileOver text rules (backs_in tables) bytes
+  pub one_file : IsOwnFile text rules (backs_in tables) bytes
 
 -- what an answer of `check` means: it changes no file and takes no input, each status has its
 -- cause, and the one file of a text over exact tables is found exact
@@ -89,4 +89,4 @@ checking_at table behind = record (plain
 abbrev pub check_words : List (List ℕ) → Job
 check_words words =
     taking (λ names. unless (has_twice words) (checking_at names.0 names.1))
-    (table_names_of words)
+    (file_names_of words)

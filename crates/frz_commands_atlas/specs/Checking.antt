@@ -3,16 +3,15 @@
 use Rattle.std.specs.Prelude.{◌≡◌, ℕ, ◌+◌, List, [], ◌∷◌, ◌++◌, map, sum_by, Option, Some, Ok, codes, decimal}
 use Rattle.frz_sets.specs.Sets.{size_of}
 use Rattle.frz_store.specs.Files.{Files}
-use Rattle.frz_table.specs.declared.kind.FileKind.TheVariants.{Atlas}
-use Rattle.frz_table.specs.Opening.{Contents, opened, table_format}
+use Rattle.frz_table.specs.Opening.{Contents, opened, own_format}
 use Rattle.frz_check.specs.declared.verdict.Verdict.{Verdict}
 use Rattle.frz_check.specs.declared.verdict.Verdict.TheVariants as verdict
 use Rattle.frz_check.specs.Kept.{kept_codes}
 use Rattle.frz_check.specs.Verdicts.{IsVerdict}
-use Rattle.frz_backs.specs.Values.{atlas_value}
-use Rattle.frz_atlas.specs.Behind.{TableBytes, backs_in}
-use Rattle.frz_atlas.specs.Checking.{own_size, sizes_in}
-use Rattle.frz_atlas.specs.Costs.{steps_of}
+use Rattle.frz_backs.specs.Links.{value_over}
+use Rattle.frz_atlas.specs.Behind.{TableBytes, backs_in, leans}
+use Rattle.frz_atlas.specs.Checking.{sizes_in}
+use Rattle.frz_atlas.specs.Costs.{size_held, steps_of}
 use Rattle.frz_answer.specs.declared.status.Status.{Status}
 use Rattle.frz_answer.specs.declared.status.Status.TheVariants as statuses
 use Rattle.frz_answer.specs.Answers.{Answer, says}
@@ -27,9 +26,14 @@ abbrev pub sizes_text : List ℕ → List ℕ
 sizes_text [] = codes "\n"
 sizes_text (size ∷ sizes) = (codes " " ++ decimal size) ++ sizes_text sizes
 
+-- over how many numbers of the tables behind, if there are any, and the end of the line
+abbrev pub over_text : List ℕ → List ℕ
+over_text [] = codes "\n"
+over_text (size ∷ sizes) = codes " over" ++ sizes_text (size ∷ sizes)
+
 -- the line for a table of `size` numbers that is exact over tables of `sizes` numbers
 abbrev pub exact_over_line : ℕ → List ℕ → List ℕ
-exact_over_line size sizes = (codes "exact " ++ decimal size) ++ codes " over" ++ sizes_text sizes
+exact_over_line size sizes = (codes "exact " ++ decimal size) ++ over_text sizes
 
 -- the status and the line that tell the verdict on a table of `size` numbers over tables of `sizes`
 -- numbers
@@ -42,16 +46,16 @@ verdict_line size sizes verdict.Exact = exact_over_line size sizes
 verdict_line size sizes (verdict.Wrong wrong) = wrong_line wrong
 
 -- TABLE opens, the BACKs hold tables that are exact, each over those before it, and this is the
--- verdict on the codes of TABLE over all of them
+-- verdict on the codes of TABLE, over all of them where it leans on them
 pub record IsJudgedAtlas (held : Option (List ℕ)) (behind : List (Option (List ℕ)))
     (judgement : Verdict) : Type 0 where
   pub bytes : List ℕ
   pub there : held ≡ Some bytes
   pub contents : Contents
-  pub opens : opened (table_format Atlas) (Some bytes) ≡ Ok contents
+  pub opens : opened own_format (Some bytes) ≡ Ok contents
   pub tables : List TableBytes
   pub behind_it : AreTablesIn behind tables
-  pub judged : IsVerdict contents.rules (atlas_value contents.rules (backs_in tables))
+  pub judged : IsVerdict contents.rules (value_over (leans bytes) contents.rules (backs_in tables))
       (kept_codes contents bytes) judgement
 
 -- TABLE or one of the BACKs is refused, the first in this order, or the verdict is told
@@ -68,7 +72,7 @@ pub data IsCheckedAt (table : List ℕ) (behind : List (List ℕ)) (files : File
 -- makes needless is not spent
 abbrev pub check_costs : Option (List ℕ) → List (Option (List ℕ)) → Costs
 check_costs held behind = record {
-  steps = Some (own_size held + sum_by steps_of behind);
+  steps = Some (size_held held + sum_by steps_of behind);
   calls = Some (loading_calls held behind);
   asked = Some (loading_bytes held behind);
 }

@@ -13,10 +13,9 @@ use Rattle.frz_store.specs.Bytes.{MayBeHeld}
 use Rattle.frz_store.specs.Files.{Files}
 use Rattle.frz_store.specs.Told.{StoreTold}
 use Rattle.frz_table.specs.declared.fault.TableFault.{TableFault}
-use Rattle.frz_table.specs.Opening.{Contents, opened, table_format}
+use Rattle.frz_table.specs.Opening.{Contents, opened, own_format}
 use Rattle.frz_table.specs.Possible.{held_text}
 use Rattle.frz_table.specs.Tables.{Table, table_size}
-use Rattle.frz_atlas.specs.Behind.{kind_held}
 use Rattle.frz_answer.specs.declared.status.Status.TheVariants.{Success}
 use Rattle.frz_answer.specs.Answers.{Answer, says}
 use Rattle.frz_answer.specs.Jobs.{Costs}
@@ -47,7 +46,7 @@ AreRowsBy (Err fault) bytes p given = given ≡ Err (refusals.Table fault)
 -- what a name gives that holds this: it is opened as the kind that its first bytes tell
 abbrev pub AreRowsOf : Option (List ℕ) → Board → Result (List Row) Refused → Type 0
 AreRowsOf held p given =
-    AreRowsBy (opened (table_format (kind_held held)) held) (unwrap_or held []) p given
+    AreRowsBy (opened own_format held) (unwrap_or held []) p given
 
 abbrev pub answer_by : Board → Result (List Row) Refused → Files → Answer
 answer_by p (Ok rows) files = says Success (each_text p rows) files
@@ -69,7 +68,7 @@ staying_by (Ok contents) p = staying_in contents p
 staying_by (Err fault) p = 0
 
 abbrev pub staying : Option (List ℕ) → Board → ℕ
-staying held p = staying_by (opened (table_format (kind_held held)) held) p
+staying held p = staying_by (opened own_format held) p
 
 -- how many calls of the store find the rows in what a name holds: at most seven open it, and two
 -- read the codes behind each move that stays in the set

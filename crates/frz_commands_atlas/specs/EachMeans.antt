@@ -18,8 +18,7 @@ use Rattle.frz_answer.specs.Jobs.{Job, Once, plain, WithinCosts}
 use Rattle.frz_answer.specs.Words.{taking, two_words_of}
 use Rattle.frz_bound_lines.specs.BoundLines.{bound_text, side_name}
 use Rattle.frz_prelude.specs.Positions.{on_position}
-use Rattle.frz_prelude.specs.TableFiles.{OpensAsKind, TellsFaultOfKind}
-use Rattle.frz_atlas.specs.Behind.{kind_of}
+use Rattle.frz_atlas_prelude.specs.OwnFiles.{OpensAsOwn, TellsOwnFault}
 use Rattle.frz_commands_atlas.specs.declared.rows.Row.{Row}
 use Rattle.frz_commands_atlas.specs.Each.{IsEachAt, each_costs}
 use Rattle.frz_commands_atlas.specs.MoveRows.{rows_in}
@@ -49,7 +48,7 @@ TellsBehind rules value p row =
 pub record TellsEach (table : List ℕ) (p : Board) (files : Files) (text : List ℕ) : Type 0 where
   pub bytes : List ℕ
   pub contents : Contents
-  pub open_file : OpensAsKind (kind_of bytes) table files bytes contents
+  pub open_file : OpensAsOwn table files bytes contents
   pub inside : Member contents.rules.groups p
   pub rows : List Row
   pub ranked : IsRanked (rank_for p.turn) (rows_in contents bytes p) rows
@@ -61,19 +60,13 @@ pub record TellsEach (table : List ℕ) (p : Board) (files : Files) (text : List
 pub record IsOutside (table : List ℕ) (p : Board) (files : Files) : Type 0 where
   pub bytes : List ℕ
   pub contents : Contents
-  pub open_file : OpensAsKind (kind_of bytes) table files bytes contents
+  pub open_file : OpensAsOwn table files bytes contents
   pub outside : Member contents.rules.groups p → ⊥
-
--- the file is there, and the text names the first fault of its bytes
-abbrev pub TellsFault : List ℕ → Files → List ℕ → Type 0
-TellsFault table files text =
-    (bytes : List ℕ) × (files table ≡ Some bytes)
-    × TellsFaultOfKind (kind_of bytes) table files text
 
 -- what an answer says, by its status
 abbrev pub MeansEachBy : List ℕ → Board → Files → Status → List ℕ → Type 0
 MeansEachBy table p files Success text = TellsEach table p files text
-MeansEachBy table p files Table text = TellsFault table files text
+MeansEachBy table p files Table text = TellsOwnFault table files text
 MeansEachBy table p files Apart text = IsOutside table p files
 MeansEachBy table p files Missing text = files table ≡ None
 MeansEachBy table p files status text = ⊥

@@ -8,14 +8,12 @@ use Rattle.frz_game.specs.Values.{AreTrueExits}
 use Rattle.frz_index.specs.Members.{Member, Num}
 use Rattle.frz_store.specs.Files.{Files, bytes_at}
 use Rattle.frz_table.specs.declared.fault.TableFault.{TableFault}
-use Rattle.frz_table.specs.declared.kind.FileKind.TheVariants.{Atlas}
-use Rattle.frz_table.specs.Opening.{Contents, opened, table_format}
+use Rattle.frz_table.specs.Opening.{Contents, opened, own_format}
 use Rattle.frz_check.specs.Kept.{kept_codes}
 use Rattle.frz_check.specs.KeptTables.{KeepsBound, KeepsTables}
-use Rattle.frz_backs.specs.Links.{AreTrueLines}
-use Rattle.frz_backs.specs.Values.{atlas_value}
-use Rattle.frz_atlas.specs.Behind.{AreJudged, TableBytes, backs_in, link_of}
-use Rattle.frz_atlas.specs.Checking.{own_size}
+use Rattle.frz_backs.specs.Links.{AreTrueLines, value_over}
+use Rattle.frz_atlas.specs.Behind.{AreJudged, TableBytes, backs_in, leans, link_of}
+use Rattle.frz_atlas.specs.Costs.{size_held}
 use Rattle.frz_atlas.specs.Loading.{opened_all}
 use Rattle.frz_atlas.specs.declared.fault.BackFault.TheVariants.{Refused}
 use Rattle.frz_report.specs.Reports.{report_text}
@@ -26,21 +24,21 @@ use Rattle.frz_answer.specs.Jobs.{Costs, Job, Once, plain, WithinCosts}
 use Rattle.frz_answer.specs.Words.{taking, unless}
 use Rattle.frz_prelude.specs.Refusals.{table_status}
 use Rattle.frz_prelude.specs.TableCauses.{table_line}
-use Rattle.frz_prelude.specs.TableFiles.{OpensAsKind}
+use Rattle.frz_atlas_prelude.specs.OwnFiles.{OpensAsOwn}
 use Rattle.frz_atlas_prelude.specs.BackLines.{back_line}
-use Rattle.frz_atlas_prelude.specs.Names.{has_twice, table_names_of}
+use Rattle.frz_atlas_prelude.specs.Names.{file_names_of, has_twice}
 use Rattle.frz_atlas_prelude.specs.TableRefusals.{TellsRefusal}
 use Rattle.frz_commands_atlas.specs.Checking.{check_costs}
 
--- the value of an exit of a table over these: by its exit lines, and by the first of these tables
--- whose set holds the position where the lines say nothing
-abbrev pub value_behind : Contents → List TableBytes → Board → Value
-value_behind contents tables = atlas_value contents.rules (backs_in tables)
+-- the value of an exit of a table over these: by its exit lines and, where it leans on them, by the
+-- first of these tables whose set holds the position where the lines say nothing
+abbrev pub value_behind : Contents → List ℕ → List TableBytes → Board → Value
+value_behind contents bytes tables = value_over (leans bytes) contents.rules (backs_in tables)
 
 -- the report of a table over these, by the codes in it
 abbrev pub report_over : Contents → List ℕ → List TableBytes → List ℕ
 report_over contents bytes tables =
-    report_text contents.rules (value_behind contents tables) (kept_codes contents bytes)
+    report_text contents.rules (value_behind contents bytes tables) (kept_codes contents bytes)
 
 -- the report of a file that opens, or the line that tells which BACK is refused first and why
 abbrev pub report_behind : Contents → List ℕ → Result (List TableBytes) (ℕ × TableFault) → Files
@@ -59,7 +57,7 @@ report_by (Err fault) bytes behind files = says (table_status fault) (table_line
 -- these is refused first
 abbrev pub report_at : List ℕ → List (List ℕ) → Files → Answer
 report_at table behind files =
-    report_by (opened (table_format Atlas) (files table)) (bytes_at files table)
+    report_by (opened own_format (files table)) (bytes_at files table)
     (opened_all (map files behind)) files
 
 -- the text is the report of TABLE over the BACKs. Where the codes in TABLE are its tables over
@@ -70,17 +68,17 @@ pub record TellsReport (table : List ℕ) (behind : List (List ℕ)) (files : Fi
     (text : List ℕ) : Type 0 where
   pub bytes : List ℕ
   pub contents : Contents
-  pub open_file : OpensAsKind Atlas table files bytes contents
+  pub open_file : OpensAsOwn table files bytes contents
   pub tables : List TableBytes
   pub all_open : opened_all (map files behind) ≡ Ok tables
   pub told : text ≡ report_over contents bytes tables
-  pub where_exact : KeepsTables (value_behind contents tables) contents bytes →
+  pub where_exact : KeepsTables (value_behind contents bytes tables) contents bytes →
       (side : Colour) (p : Board) → Member contents.rules.groups p →
-      KeepsBound contents.rules (value_behind contents tables) side p
+      KeepsBound contents.rules (value_behind contents bytes tables) side p
       (slice_index (kept_codes contents bytes side) (Num contents.rules.groups p))
   pub true_exits : AreJudged tables → AreTrueExits contents.rules (value_by contents.rules) →
       AreTrueLines (map link_of tables) →
-      AreTrueExits contents.rules (value_behind contents tables)
+      AreTrueExits contents.rules (value_behind contents bytes tables)
 
 -- what an answer says, by its status
 abbrev pub MeansStatus : List ℕ → List (List ℕ) → Files → Answer → Status → Type 0
@@ -100,7 +98,7 @@ pub record MeansReport (table : List ℕ) (behind : List (List ℕ)) (files : Fi
 -- the costs of `report`: at most one step a number of TABLE, and the calls and bytes of opening and
 -- loading TABLE and the BACKs, which are those of `check`
 abbrev pub report_costs : Option (List ℕ) → List (Option (List ℕ)) → Costs
-report_costs held behind = record (check_costs held behind) { steps = Some (own_size held) }
+report_costs held behind = record (check_costs held behind) { steps = Some (size_held held) }
 
 -- `report` with names no two of which are the same; its lines are written one by one as they are
 -- found
@@ -117,4 +115,4 @@ reporting_at table behind = record (plain (Success ∷ Table ∷ Missing ∷ [])
 abbrev pub report_words : List (List ℕ) → Job
 report_words words =
     taking (λ names. unless (has_twice words) (reporting_at names.0 names.1))
-    (table_names_of words)
+    (file_names_of words)

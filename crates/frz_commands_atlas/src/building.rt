@@ -45,8 +45,8 @@ fn build_named<S: Store, O: Sink, L: Ledger>(
     }
 }
 
-/// Runs the command `build RULES TABLE BACK..`; `words` are RULES, TABLE and 1 to 16 BACKs. Refuses
-/// a name that stands twice, before it reads a file.
+/// Runs the command `build RULES TABLE BACK..`; `words` are RULES, TABLE and 0 to 16 BACKs. With
+/// none the table is a plain one. Refuses a name that stands twice, before it reads a file.
 pub fn run_build<S: Store, O: Sink, L: Ledger>(
     alloc: Global,
     words: &[String],

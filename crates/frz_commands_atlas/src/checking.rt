@@ -1,5 +1,5 @@
-//! The command `check TABLE BACK ..`: whether a table is exact over the tables of the names BACK,
-//! and each of those over the ones before it.
+//! The command `check TABLE BACK ..`: whether a table is exact, over the tables of the names BACK
+//! where it leans on others, and each of those over the ones before it.
 ghost use Rattle.std.specs.Prelude.{◌≡◌, ◌≤◌, ◌∷◌, length, map, false};
 ghost use Rattle.std.specs.String.{string_bytes};
 ghost use Rattle.frz_store.specs.Told.{SourceTold, store_of, sink_of};
@@ -12,13 +12,13 @@ ghost use Rattle.frz_commands_atlas.specs.CheckMeans.{checking_at, check_words};
 use crate::verdict_lines::{status_of, write_verdict};
 use frz_answer::{End, refuse, said};
 use frz_atlas::check_atlas;
-use frz_atlas_prelude::{different_names, end_at};
+use frz_atlas_prelude::{names_with_backs, end_at};
 use frz_steps::Steps;
 use frz_store::{Sink, Store};
 use std::alloc::Global;
 use std::sync::ledger::Ledger;
 
-/// Checks the table over the tables behind it, by names no two of which are the same.
+/// Checks the table and the tables behind it, by names no two of which are the same.
 fn check_named<S: Store, O: Sink, L: Ledger>(
     alloc: Global,
     table: &str,
@@ -43,7 +43,7 @@ fn check_named<S: Store, O: Sink, L: Ledger>(
     }
 }
 
-/// Runs the command `check TABLE BACK..`; `words` are TABLE and 1 to 16 BACKs. Refuses a name that
+/// Runs the command `check TABLE BACK..`; `words` are TABLE and 0 to 16 BACKs. Refuses a name that
 /// stands twice, before it reads a file.
 pub fn run_check<S: Store, O: Sink, L: Ledger>(
     alloc: Global,
@@ -58,7 +58,7 @@ pub fn run_check<S: Store, O: Sink, L: Ledger>(
     ensures store_unused { (check_words (map string_bytes words.now)).needs.store ≡ false
         → store.new ≡ store.old }
 {
-    match different_names(words) {
+    match names_with_backs(words) {
         Ok((table, behind)) => check_named(alloc, table, behind, store, out, steps),
         Err(why) => refuse(why, out),
     }

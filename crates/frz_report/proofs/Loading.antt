@@ -61,6 +61,7 @@ unloaded_writes files tab out fault result is outside =
         → WritesOfTable files tab (Err (unloaded fault)) out out
     nothing_written table.Missing h = absurd h
     nothing_written table.Magic h = absurd h
+    nothing_written (table.Other other) h = absurd h
     nothing_written (table.Truncated length due) h = absurd h
     nothing_written (table.Extra length due) h = absurd h
     nothing_written (table.Rules why) h = absurd h
@@ -81,6 +82,7 @@ unloaded_cause {T} old new fault result is outside causes =
         → StoreCause (Err (unloaded fault)) old new
     store_cause table.Missing h k = absurd h
     store_cause table.Magic h k = absurd h
+    store_cause (table.Other other) h k = absurd h
     store_cause (table.Truncated length due) h k = absurd h
     store_cause (table.Extra length due) h k = absurd h
     store_cause (table.Rules why) h k = absurd h

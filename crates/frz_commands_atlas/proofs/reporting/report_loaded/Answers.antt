@@ -1,20 +1,29 @@
 use Rattle.std.specs.Prelude.{map}
 use Rattle.std.proofs.Common.{◌∙◌, ap}
+use Rattle.frz_graph.specs.EntryCodes.{of_side}
 use Rattle.frz_store.specs.Told.{sink_of}
 use Rattle.frz_backs.specs.FileOn.{loaded_back}
-use Rattle.frz_commands_atlas.proofs.ReportEnds.{moved_report}
+use Rattle.frz_commands_atlas.proofs.ReportEnds.{report_leaning, report_plain}
 use Rattle.frz_commands_atlas.proofs.reporting.report_loaded.Goals as goal
 
-pub returns-clause-wrote : goal.returns-clause-wrote
-returns-clause-wrote g c =
+pub returns-in-Atlas-clause-wrote : goal.returns-in-Atlas-clause-wrote
+returns-in-Atlas-clause-wrote g c =
     let given = c.args.loaded.now in
-    let rules = given.table.table.rules in
-    let book = c.new.result in
-    moved_report c.rules-rules.result.now rules book.rules.now
-    (map loaded_back book.backs.now) (map loaded_back given.backs.items)
-    given.table.white.items given.table.black.items c.deref-2.result.now c.deref-3.result.now
-    c.write_report.result (sink_of g.O.Sink c.args.out.now)
-    (sink_of g.O.Sink c.write_report.new.out) c.rules-rules.ensures.rules
+    report_leaning given.table.table.kind c.new.result.rules.now given.table.table.rules
+    (map loaded_back c.new.result.backs.now) (map loaded_back given.backs.items)
+    (λ side. of_side side given.table.white.items given.table.black.items) c.report_by.result
+    (sink_of g.O.Sink c.args.out.now) (sink_of g.O.Sink c.report_by.new.out) c.in-Atlas.ensures
     (c.new.ensures.rules ∙ c.rules-rules.ensures.rules)
-    (ap (map loaded_back) (c.new.ensures.backs ∙ c.deref.ensures.value)) c.deref-2.ensures.value
-    c.deref-3.ensures.value c.write_report.ensures.wrote
+    (ap (map loaded_back) (c.new.ensures.backs ∙ c.deref.ensures.value)) c.report_by.ensures.wrote
+
+pub returns-in_default-clause-wrote : goal.returns-in_default-clause-wrote
+returns-in_default-clause-wrote g c =
+    let given = c.args.loaded.now in
+    report_plain given.table.table.kind c.new-in_default.result.rules.now given.table.table.rules
+    (map loaded_back given.backs.items)
+    (λ side. of_side side given.table.white.items given.table.black.items)
+    c.report_by-in_default.result (sink_of g.O.Sink c.args.out.now)
+    (sink_of g.O.Sink c.report_by-in_default.new.out)
+    (λ e. c.in_default.not-Atlas (c.kind.ensures ∙ e))
+    (c.new-in_default.ensures ∙ c.rules-rules.ensures.rules)
+    c.report_by-in_default.ensures.wrote

@@ -1,19 +1,18 @@
 use Rattle.std.specs.Prelude.{map}
 use Rattle.std.specs.String.{string_bytes}
 use Rattle.frz_store.specs.Told.{store_of}
-use Rattle.frz_atlas_prelude.specs.Names.{table_names_of}
 use Rattle.frz_atlas_prelude.proofs.Lemmas.{ran_named, ran_refused}
 use Rattle.frz_commands_atlas.specs.Reporting.{reporting_at}
 use Rattle.frz_commands_atlas.proofs.reporting.run_report.Goals as goal
 
 pub returns-in-Ok-clause-ran : goal.returns-in-Ok-clause-ran
 returns-in-Ok-clause-ran g c = λ input.
-    ran_named table_names_of (λ names. reporting_at names.0 names.1)
+    ran_named (λ names. reporting_at names.0 names.1)
     (map string_bytes c.args.words.now) _ _ _ c.in-Ok.table.now (map string_bytes c.in-Ok.behind.now) c.in-Ok.ensures.named
     (c.report_named.ensures input)
 
 pub returns-in-Err-clause-ran : goal.returns-in-Err-clause-ran
 returns-in-Err-clause-ran g c = λ input.
-    ran_refused table_names_of (λ names. reporting_at names.0 names.1)
+    ran_refused (λ names. reporting_at names.0 names.1)
     (map string_bytes c.args.words.now) _ _ _ c.in-Err.why c.in-Err.ensures.refused
     (c.refuse.ensures (store_of g.S.Store c.args.store.now) input _)

@@ -1,18 +1,10 @@
-use Rattle.frz_answer.proofs.Lemmas.{failed_first, failed_next, gave_up, took_next, wrote_next}
+use Rattle.frz_answer.proofs.Lemmas.{failed_first, gave_up, wrote_next}
 use Rattle.frz_commands_atlas.proofs.verdict_lines.write_exact_over.Goals as goal
 
 pub returns-in_err-write_numbered : goal.returns-in_err-write_numbered
 returns-in_err-write_numbered g c =
     gave_up c.from_residual.ensures.0
-    (failed_first _ (failed_first _ c.in_err-write_numbered.ensures.failed))
-
-pub returns-in_err-write_piece : goal.returns-in_err-write_piece
-returns-in_err-write_piece g c =
-    gave_up c.from_residual-in_err-write_piece.ensures.0
-    (failed_first _ (failed_next c.in_ok-write_numbered.ensures.ok
-    c.in_err-write_piece.ensures.failed))
+    (failed_first _ c.in_err-write_numbered.ensures.failed)
 
 pub returns : goal.returns
-returns g c =
-    wrote_next (took_next c.in_ok-write_numbered.ensures.ok c.in_ok-write_piece.ensures.ok)
-    c.write_sizes.ensures
+returns g c = wrote_next c.in_ok-write_numbered.ensures.ok c.write_over.ensures
