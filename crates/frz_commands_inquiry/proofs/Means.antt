@@ -9,7 +9,7 @@ use Rattle.frz_table.specs.declared.fault.TableFault.{TableFault}
 use Rattle.frz_table.specs.declared.fault.TableFault.TheVariants as table_faults
 use Rattle.frz_table.specs.Opening.{Contents}
 use Rattle.frz_table.proofs.Lemmas.{opened_missing}
-use Rattle.frz_atlas.specs.Behind.{TableBytes}
+use Rattle.frz_atlas.specs.Behind.{TableBytes, backs_in}
 use Rattle.frz_atlas.specs.Loading.{opened_all, opened_own}
 use Rattle.frz_answer.specs.declared.status.Status.{Status}
 use Rattle.frz_answer.specs.Answers.{Answer}
@@ -19,15 +19,36 @@ use Rattle.frz_commands_why.specs.Meaning.{Opens, of_back, of_table}
 use Rattle.frz_commands_inquiry.specs.declared.inquiring.Halt.{Halt}
 use Rattle.frz_commands_inquiry.specs.declared.inquiring.Halt.TheVariants.{InputEnded, Lines, LineLength}
 use Rattle.frz_commands_inquiry.specs.declared.inquiring.TheConstants.{MOST_LINES}
-use Rattle.frz_commands_inquiry.specs.AskOf.{answer_of, asked_at, asked_behind, asked_by}
+use Rattle.frz_board.specs.declared.man.Colour.TheVariants.{White, Black}
+use Rattle.frz_index.proofs.Lemmas.{number_there, of_member}
+use Rattle.frz_check.proofs.Lemmas.{bound_kept}
+use Rattle.frz_backs.specs.Codes.{codes_at}
+use Rattle.frz_commands_why.specs.WhyOf.{value_behind}
+use Rattle.frz_commands_inquiry.specs.AskOf.{answer_of, asked_at, asked_behind, asked_by, link_in}
 use Rattle.frz_commands_inquiry.specs.Inquiries.{Inquiry, halt_status, inquiry}
-use Rattle.frz_commands_inquiry.specs.Meaning.{MeansAsk, MeansStatus, bytes_of, reply_in, replies}
+use Rattle.frz_commands_inquiry.specs.Places.{found_or, outside_text}
+use Rattle.frz_commands_inquiry.specs.Meaning.{MeansAsk, MeansStatus, WhereExact, bytes_of, reply_in, replies}
 use Rattle.frz_commands_inquiry.proofs.LinesAnswered.{Answers, HaltsSo, lines_answered}
 
 module _ (table : List ℕ) (behind : List (List ℕ)) (files : Files) (input : List ℕ) where
   module _ (opens : Opens table behind files) where
     abbrev reply : List ℕ → List ℕ
     reply = reply_in opens
+
+    where_exact : WhereExact opens
+    where_exact kept p inside =
+        let contents = opens.contents in
+        let bytes = opens.bytes in
+        let value = value_behind contents bytes opens.tables in
+        let own = link_in contents bytes in
+        record {
+          white = bound_kept value contents bytes kept White p inside;
+          black = bound_kept value contents bytes kept Black p inside;
+          told = ap (λ (o : Option ℕ). found_or (outside_text own (backs_in opens.tables) p)
+              (codes_at own.back o)) 
+              (number_there contents.rules.groups p
+              (of_member contents.rules.groups p inside));
+        }
 
     by_halt : (halt : Halt) (text : List ℕ) (taken answered : ℕ)
         → text ≡ replies reply (take answered (lines input))
@@ -41,6 +62,7 @@ module _ (table : List ℕ) (behind : List (List ℕ)) (files : Files) (input : 
           (ap (λ n. take n (lines input)) h.0 ∙ take-length (lines input)));
       few = subst (λ n. n < MOST_LINES) h.0 h.1;
       all = h.2;
+      where_exact = where_exact;
     }
     by_halt Lines text taken answered is h = record {
       open_all = opens;
@@ -50,6 +72,7 @@ module _ (table : List ℕ) (behind : List (List ℕ)) (files : Files) (input : 
             (is ∙ ap (λ n. replies reply (take n (lines input))) h.0);
         taken = subst (λ n. taken ≤ bytes_of (take n (lines input))) h.0 h.2;
       });
+      where_exact = where_exact;
     }
     by_halt LineLength text taken answered is h = record {
       open_all = opens;
@@ -62,6 +85,7 @@ module _ (table : List ℕ) (behind : List (List ℕ)) (files : Files) (input : 
         told = ap (λ (t : List ℕ). t ++ codes "limit line length\n") is;
         taken = h.2;
       });
+      where_exact = where_exact;
     }
 
     inquired : (told : Inquiry) → Answers reply MOST_LINES input told

@@ -1,14 +1,19 @@
 -- What the answers of `ask` mean.
 use Rattle.std.specs.Prelude.{◌≡◌, ◌⊎◌, ◌<◌, ◌≤◌, ◌+◌, ℕ, List, [], ◌∷◌, ◌++◌, length, take, slice_get, sum_by, Some, codes}
+use Rattle.frz_board.specs.declared.man.Colour.TheVariants.{White, Black}
+use Rattle.frz_board.specs.Boards.{Board}
+use Rattle.frz_index.specs.Members.{Member}
 use Rattle.frz_store.specs.Files.{Files}
 use Rattle.frz_words.specs.Lines.{lines}
+use Rattle.frz_check.specs.KeptTables.{KeepsBound, KeepsTables}
 use Rattle.frz_answer.specs.declared.status.Status.{Status}
 use Rattle.frz_answer.specs.declared.status.Status.TheVariants.{Success, Table, Missing, Limit}
 use Rattle.frz_answer.specs.Answers.{Answer}
 use Rattle.frz_atlas.specs.Behind.{backs_in}
 use Rattle.frz_commands_why.specs.Meaning.{Opens, TellsRefusal}
+use Rattle.frz_commands_why.specs.WhyOf.{code_at, value_behind}
 use Rattle.frz_commands_inquiry.specs.AskOf.{link_in}
-use Rattle.frz_commands_inquiry.specs.Places.{reply_to}
+use Rattle.frz_commands_inquiry.specs.Places.{both_text, place_text, reply_to}
 use Rattle.frz_commands_inquiry.specs.declared.inquiring.TheConstants.{MOST_LINES}
 use Rattle.frz_commands_inquiry.specs.declared.input_line.TheConstants.{MOST_LENGTH}
 
@@ -23,6 +28,28 @@ abbrev pub replies : (reply : List ℕ → List ℕ) → List (List ℕ) → Lis
 replies reply [] = []
 replies reply (line ∷ others) = (reply line ++ codes "\n") ++ replies reply others
 
+-- the reply to a position of TABLE's set has the words of these codes, which stand for the bounds of
+-- both sides there, and the bounds say of chess what Means states, under the premise that the exits
+-- are true
+pub record TellsBoundsAt {table : List ℕ} {behind : List (List ℕ)} {files : Files}
+    (opens : Opens table behind files) (p : Board) : Type 0 where
+  pub white : KeepsBound opens.contents.rules
+      (value_behind opens.contents opens.bytes opens.tables) White p
+      (code_at opens.contents opens.bytes White p)
+  pub black : KeepsBound opens.contents.rules
+      (value_behind opens.contents opens.bytes opens.tables) Black p
+      (code_at opens.contents opens.bytes Black p)
+  pub told : place_text (link_in opens.contents opens.bytes) (backs_in opens.tables) p
+      ≡ both_text (code_at opens.contents opens.bytes White p)
+      (code_at opens.contents opens.bytes Black p)
+
+-- so it is where the codes in TABLE are its tables over the BACKs
+abbrev pub WhereExact : {table : List ℕ} {behind : List (List ℕ)} {files : Files} →
+    Opens table behind files → Type 0
+WhereExact opens =
+    KeepsTables (value_behind opens.contents opens.bytes opens.tables) opens.contents opens.bytes →
+    (p : Board) → Member opens.contents.rules.groups p → TellsBoundsAt opens p
+
 -- each line of the input is answered, and all of the input is taken
 pub record TellsAll (table : List ℕ) (behind : List (List ℕ)) (files : Files) (input : List ℕ)
     (a : Answer) : Type 0 where
@@ -30,6 +57,7 @@ pub record TellsAll (table : List ℕ) (behind : List (List ℕ)) (files : Files
   pub told : a.text ≡ replies (reply_in open_all) (lines input) ++ codes "input ended\n"
   pub few : length (lines input) < MOST_LINES
   pub all : a.taken ≡ length input
+  pub where_exact : WhereExact open_all
 
 -- how many bytes lines have with their line feeds
 abbrev pub bytes_of : List (List ℕ) → ℕ
@@ -56,6 +84,7 @@ pub record TellsLimit (table : List ℕ) (behind : List (List ℕ)) (files : Fil
     (a : Answer) : Type 0 where
   pub open_all : Opens table behind files
   pub limit : MetLines (reply_in open_all) input a ⊎ MetLength (reply_in open_all) input a
+  pub where_exact : WhereExact open_all
 
 -- what an answer says, by its status
 abbrev pub MeansStatus : List ℕ → List (List ℕ) → Files → (input : List ℕ) → Answer → Status → Type 0
