@@ -37,7 +37,7 @@ find_names_of_atlas() {
     case "${1-}" in
         build) find_tables_behind $# 3 1 ;;
         check | report) find_tables_behind $# 2 1 ;;
-        premises) find_tables_behind $# 2 0 ;;
+        premises | ask) find_tables_behind $# 2 0 ;;
         verdict) find_tables_behind $# 3 0 ;;
         line | play) ! is_side "${4-}" || find_tables_behind $# 4 1 ;;
         why) ! is_side "${4-}" || find_tables_behind $# 4 0 ;;

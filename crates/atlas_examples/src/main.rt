@@ -1,6 +1,7 @@
 //! Does over real files what its arguments say: builds a plain table, builds and checks tables over
-//! several others, asks them, plays by them, and tells what exit lines rest on and what is shown of positions. An argument has the
-//! words of one command with `; ` between them, and behind what the command says stands its status.
+//! several others, asks them, also line by line, plays by them, and tells what exit lines rest on
+//! and what is shown of positions. An argument has the words of one command with `; ` between them,
+//! and behind what the command says stands its status.
 #![tactic(auto)]
 
 ghost use Rattle.std.specs.Prelude.{◌≡◌, ◌<◌};
@@ -8,6 +9,7 @@ ghost use Rattle.std.specs.Prelude.{◌≡◌, ◌<◌};
 use frz_answer::{End, Refusal, finish, refuse, write_numbered_line};
 use frz_commands_ask::query_kind;
 use frz_commands_atlas::{run_build, run_check, run_each};
+use frz_commands_inquiry::run_ask;
 use frz_commands_journeys::{run_line as play_line, run_play};
 use frz_commands_premises::run_premises;
 use frz_commands_table::build;
@@ -55,6 +57,7 @@ fn run_command<S: Store, I: Source, O: Sink, L: Ledger>(
         "plain" => tell(build(alloc, rest, store, steps), out),
         "build" => run_build(alloc, rest, store, out, steps),
         "check" => run_check(alloc, rest, store, out, steps),
+        "ask" => run_ask(alloc, rest, store, input, out, steps),
         "each" => run_each(alloc, rest, store, out, steps),
         "line" => play_line(alloc, rest, store, out, steps),
         "play" => run_play(alloc, rest, store, input, out, steps),

@@ -10,13 +10,14 @@ use Rattle.frz_commands_atlas.specs.CheckMeans.{check_words}
 use Rattle.frz_commands_atlas.specs.EachMeans.{each_words}
 use Rattle.frz_commands_atlas.specs.Reporting.{report_words}
 use Rattle.frz_commands_atlas.specs.Sizing.{size_words}
+use Rattle.frz_commands_inquiry.specs.Asking.{ask_words}
 use Rattle.frz_commands_journeys.specs.Journeying.{line_words, play_words}
 use Rattle.frz_commands_premises.specs.Premising.{premises_words}
 use Rattle.frz_commands_verdict.specs.Verdicting.{verdict_words}
 use Rattle.frz_commands_why.specs.Asking.{why_words}
 use Rattle.frz_program.specs.Commands.{command_of}
 use Rattle.frz_atlas_top.specs.declared.verb.Verb.{Verb}
-use Rattle.frz_atlas_top.specs.declared.verb.Verb.TheVariants.{Build, Check, Query, Each, Line, Play, Why, Verdict, Premises, Report, Size}
+use Rattle.frz_atlas_top.specs.declared.verb.Verb.TheVariants.{Build, Check, Query, Ask, Each, Line, Play, Why, Verdict, Premises, Report, Size}
 use Rattle.frz_atlas_top.specs.Verbs.{verb_of}
 
 -- the job of a command and the words behind it
@@ -24,6 +25,7 @@ abbrev pub job_by : Option (Verb × List (List ℕ)) → Job
 job_by (Some (Build, words)) = build_words words
 job_by (Some (Check, words)) = check_words words
 job_by (Some (Query, words)) = querying_words Atlas words
+job_by (Some (Ask, words)) = ask_words words
 job_by (Some (Each, words)) = each_words words
 job_by (Some (Line, words)) = line_words words
 job_by (Some (Play, words)) = play_words words

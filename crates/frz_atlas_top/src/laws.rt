@@ -6,6 +6,7 @@ ghost use Rattle.frz_atlas_top.specs.Commands.{job_of};
 
 pub mod calls;
 
+use frz_commands_inquiry::laws::one_ask_answer;
 use frz_commands_journeys::laws::{one_line_answer, one_play_answer};
 use frz_commands_why::laws::why_lawful;
 
@@ -14,6 +15,7 @@ use frz_commands_why::laws::why_lawful;
 pub fn one_answer()
     ensures { (words : List (List ℕ)) → IsLawful (job_of words) }
 {
+    one_ask_answer();
     one_line_answer();
     one_play_answer();
     why_lawful();

@@ -10,6 +10,8 @@ use crate::verb::Verb;
 use frz_answer::{End, Refusal, finish, refuse};
 use frz_commands_ask::query_kind;
 use frz_commands_atlas::{run_build, run_check, run_each, run_report, run_size};
+use frz_commands_inquiry::laws::one_ask_answer;
+use frz_commands_inquiry::run_ask;
 use frz_commands_journeys::laws::{one_line_answer, one_play_answer};
 use frz_commands_journeys::{run_line, run_play};
 use frz_commands_premises::run_premises;
@@ -45,6 +47,7 @@ fn run<S: Store, I: Source, O: Sink, L: Ledger>(
         Some((Verb::Build, rest)) => run_build(alloc, rest, store, out, steps),
         Some((Verb::Check, rest)) => run_check(alloc, rest, store, out, steps),
         Some((Verb::Query, rest)) => tell(query_kind(alloc, FileKind::Atlas, rest, store), out),
+        Some((Verb::Ask, rest)) => run_ask(alloc, rest, store, input, out, steps),
         Some((Verb::Each, rest)) => run_each(alloc, rest, store, out, steps),
         Some((Verb::Line, rest)) => run_line(alloc, rest, store, out, steps),
         Some((Verb::Play, rest)) => run_play(alloc, rest, store, input, out, steps),
@@ -80,6 +83,7 @@ pub fn atlas<S: Store, I: Source, O: Sink, L: Ledger>(
     ensures input_unused { (job_of (map string_bytes words.now)).needs.input ≡ false
         → input.new ≡ input.old }
 {
+    one_ask_answer();
     one_line_answer();
     one_play_answer();
     why_lawful();

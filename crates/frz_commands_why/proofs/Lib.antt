@@ -10,3 +10,4 @@ pub mod Running
 pub mod Inside
 pub mod WhyMeans
 pub mod Lawful
+pub mod Lemmas

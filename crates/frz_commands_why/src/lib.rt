@@ -10,4 +10,5 @@ mod texts;
 mod why;
 
 pub use decider::{Decider, Deciding};
+pub use loading::load_tables;
 pub use why::run_why;

@@ -31,6 +31,12 @@ returns-in-Some-Each-default-clause-ran g c =
     c.in-Some-Each-default.ensures)
     (c.run_each.ensures.ran (source_of g.I.Source c.args.input.now))
 
+pub returns-in-Some-Ask-default-clause-ran :
+    goal.returns-in-Some-Ask-default-clause-ran
+returns-in-Some-Ask-default-clause-ran g c =
+    as_command _ _ _ _ _ (rw c.in-Some-Ask-default.field-0-0-is at
+    c.in-Some-Ask-default.ensures) c.run_ask.ensures.ran
+
 pub returns-in-Some-Line-default-clause-ran :
     goal.returns-in-Some-Line-default-clause-ran
 returns-in-Some-Line-default-clause-ran g c =

@@ -1,0 +1,10 @@
+mod InputLines
+mod LineTaken
+mod AnsweredOn
+mod Running
+mod Unread
+mod BlankEnds
+mod LinesAnswered
+mod Means
+mod Lawful
+pub mod Lemmas
