@@ -5,10 +5,9 @@ from math import comb
 from lib.refusals import texts
 from lib.refusals.commands import both, call
 from lib.refusals.faults import Fault
-from lib.refusals.fixtures import FORMER
 from lib.refusals.heads import head_file
 from lib.refusals.texts import KINGS, LARGEST, LONGEST, MANY, filled
-from lib.tables import CHAINED, LEANING, MAGIC
+from lib.tables import CHAINED, FORMER, LEANING, MAGIC
 
 # The slots of files, the word before a refusal of theirs, and the magic of the file in this place.
 OPENED = {"TABLE": "table", "BACK": "back", "BACK 1": "back 1", "BACK 2": "back 2", "OLD": "table"}
