@@ -6,10 +6,10 @@
 to_build=2200
 to_check=900
 
-# The command reads files, and somebody sees what is told. A session would be written over.
+# The command reads files, and somebody sees what is told. A session would be written over, and so would answers.
 is_watched() {
     [ -t 2 ] && [ -z "${FREEZER_QUIET+set}" ] && [ "${TERM:-dumb}" != dumb ] || return 1
-    [ "${#reads[@]}" -gt 0 ] && [ "${words[0]}" != play ]
+    [ "${#reads[@]}" -gt 0 ] && [ "${words[0]}" != play ] && [ "${words[0]}" != ask ]
 }
 
 # Rewrites a line each three seconds (FREEZER_EVERY is for the tests), as long as the process is there.
