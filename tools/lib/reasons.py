@@ -2,7 +2,7 @@
 docs/users/formats.md."""
 
 from lib.chess import is_en_passant, move_text, name_of, side_of, write_fen
-from lib.game import HOLD, SIDES, bound_text, class_of, is_win, opponent
+from lib.game import HOLD, SIDES, bound_text, class_of, is_failure, is_win, opponent
 from lib.premises import exit_numbers
 from lib.walks import behind_at, end_at, wrong_at
 
@@ -26,7 +26,7 @@ class Reasons:
             return self.spoiled(side, number, said)
         status, said = self.denied(side, number, said)
         other = opponent(side)
-        if status != 0 or is_win(self.codes[other][number]) or self.codes[other][number] == HOLD:
+        if status != 0 or not is_failure(self.codes[other][number]):
             return status, said
         return self.spoiled(other, number, said + bound_text(other, self.codes[other][number]))
 
