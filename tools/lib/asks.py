@@ -9,7 +9,7 @@ MOST_LINES, LONGEST_LINE = 1_000_000, 128
 
 def asked(table, content):
     """Status and text for an input with this content, and how much of it is read."""
-    source, text = Input(content, MOST_LINES, LONGEST_LINE, ended=""), ""
+    source, text = Input(content, MOST_LINES, LONGEST_LINE), ""
     while True:
         line, stopped = source.next_line()
         if stopped is not None:

@@ -10,16 +10,16 @@ MOST_LINES, LONGEST_LINE = 10_000, 64
 class Input:
     """The lines that a session reads, or `ask`, and how much of it is taken."""
 
-    def __init__(self, content, most=MOST_LINES, longest=LONGEST_LINE, ended="input ended\n"):
+    def __init__(self, content, most=MOST_LINES, longest=LONGEST_LINE):
         self.content, self.taken, self.lines = content, 0, 0
-        self.most, self.longest, self.ended = most, longest, ended
+        self.most, self.longest = most, longest
 
     def next_line(self):
         """The next line without its blanks, or why there is none: a status and a last line."""
         if self.lines == self.most:
             return None, (13, "limit lines\n")
         if self.taken == len(self.content):
-            return None, (0, self.ended)
+            return None, (0, "input ended\n")
         end = self.content.find(b"\n", self.taken)
         length = (len(self.content) if end < 0 else end) - self.taken
         if length > self.longest:

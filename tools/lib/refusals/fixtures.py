@@ -88,7 +88,7 @@ ASKED_IN_H = (
     ("", "fen: fields"), ("k7/8/1K7/8/8/8/8/7R b - - 0 1", "fen: placement 6"),
 )
 SAID_TO_ASK = "".join(f"{line}\n" for line, _ in ASKED_IN_H).encode()
-TOLD_BY_ASK = "".join(f"{answer}\n" for _, answer in ASKED_IN_H)
+TOLD_BY_ASK = "".join(f"{answer}\n" for _, answer in ASKED_IN_H) + "input ended\n"
 
 
 def files_of(words):

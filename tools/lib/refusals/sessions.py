@@ -167,7 +167,8 @@ def of_ask():
     for words in (("ask", "A.t"), ("ask", "L.t", "N.t")):
         files = files_of(words)
         for given, text, status, taken, says in questions():
-            yield Case("atlas", words, files, status, text.decode(), says, given, taken)
+            ended = "" if status else "input ended\n"
+            yield Case("atlas", words, files, status, text.decode() + ended, says, given, taken)
         yield Case("atlas", words, files, 10, "input fault\n", FAULT, None)
         for given, text in ((b"", b""), (b"x", b""), (b"x\n", NO_FIELDS), (IN_A.encode() + b"\n", ASKED)):
             yield Case("atlas", words, files, 10, text.decode() + "input fault\n", FAULT, given, failing=True)

@@ -18,7 +18,7 @@ NO_COMMAND = (
 SAME, WINS = "words: same name\n", "white wins within 2\n"
 # At 5 in A over N, whose wins have no plies.
 EACH_IN_L = "Ka8 white wins within 1, black none\nKc8 back 1 white wins within 1, black none\n"
-ASKED_IN_L = "white wins within 2, black fails within 2\n"
+ASKED_IN_L = "white wins within 2, black fails within 2\ninput ended\n"
 NO_TEXT = b"\xff"
 NO_TEXTS = (b"\xff", b"a\x80", b"\xc3", b"\xed\xa0\x80", b"white\xfe")
 
@@ -142,7 +142,7 @@ def without_backs():
         (("each", "A.t", OPEN_IN_A), "Ka8 white wins within 1, black none\nKc8 exit unknown\n", b"", {}),
         # What stands behind a plain table is not asked.
         (("each", "A.t", OPEN_IN_A, "N.t"), "Ka8 white wins within 1, black none\nKc8 exit unknown\n", b"", {}),
-        (("ask", "A.t", "N.t"), "white wins within 1, black fails within 1\noutside\n",
+        (("ask", "A.t", "N.t"), "white wins within 1, black fails within 1\noutside\ninput ended\n",
          f"{MATE_IN_ONE}\n2k5/8/1K6/8/8/8/8/7R w - - 0 1\n".encode(), {}),
         (("check", "A.t", "N.t"), "exact 8 over 2\n", b"", {}),
     ):
