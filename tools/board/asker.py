@@ -6,6 +6,7 @@ import threading
 from .calls import LONGEST, NotBuilt, end
 
 MOST = 2  # processes at once, each with its tables in memory
+PATIENCE = 0.3  # seconds that a question waits for the tables to be loaded
 # A line that is no position, whose answer comes as soon as the tables are loaded.
 GREETING, REFUSED = "?", "fen: fields"
 
@@ -15,21 +16,24 @@ class Asker:
 
     def __init__(self, calls, words):
         self.lock = threading.Lock()
+        self.greeted = threading.Event()
         self.loaded = False
         self.child = None
         try:
             self.child = calls.start(*words, stdin=subprocess.PIPE)
         except (NotBuilt, OSError, ValueError):
+            self.greeted.set()
             return
         threading.Thread(target=self.greet, daemon=True).start()
 
     def greet(self):
         with self.lock:
             self.loaded = self.exchange([GREETING]) == [REFUSED]
+        self.greeted.set()
 
     def ask(self, fens):
         """The answers to these positions, or nothing where it cannot answer."""
-        if not self.loaded:
+        if not self.greeted.wait(PATIENCE) or not self.loaded:
             return None
         watch = threading.Timer(LONGEST, self.end)
         with self.lock:
