@@ -55,7 +55,7 @@ def says_as_much(table, line, position):
     side, verb, *plies = line.value.split(" ")
     if verb == "holds":
         return codes[side] == HOLD or is_win(codes[side])
-    soon = not plies or (codes[side] <= 2 + 2 * line.lag and table.game.counts(side))
+    soon = not plies or (codes[side] <= 2 + 2 * line.lag and not table.leans and table.game.counts(side))
     return is_win(codes[side]) and soon
 
 
