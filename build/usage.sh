@@ -81,7 +81,7 @@ hint_of_words() {
     done
 }
 
-# A FEN has four fields, or six.
+# A FEN has four fields, or six, and its third is -.
 find_hint_of_fen() {
     local at fields IFS=' '
     for at in "${!words[@]}"; do
@@ -91,8 +91,13 @@ find_hint_of_fen() {
         fields=(${words[at]})
         set +f
         case "${#fields[@]}" in
-            4 | 6) ;;
-            *) hints[4]="a FEN has four fields or six, and this one ${#fields[@]}: the men, the side to move (w or b), castling (-), the target of a capture en passant (a square, or -), and then two counters or none" ;;
+            4 | 6) [ "${fields[2]}" = - ] || hints[4]="castling is left out: the third field of a FEN is -" ;;
+            *)
+                hints[4]="a FEN has four fields or six, and this one ${#fields[@]}: the men, the side to move (w or b), castling (-), the target of a capture en passant (a square, or -), and then two counters or none"
+                case "${#fields[@]}/${fields[1]-}" in
+                    [235]/[wb]) hints[4]+=$'\n'"most likely: \"${fields[0]} ${fields[1]} - ${fields[3]--}\"" ;;
+                esac
+                ;;
         esac
     done
 }
@@ -100,18 +105,29 @@ find_hint_of_fen() {
 # Of the files that are of another kind than their command reads, the first of rules and of tables.
 find_hints_of_files() {
     local at kind hint
+    find_hint_of_order
     for at in "${reads[@]}"; do
         kind=$(kind_of "${words[at]}")
         if [ "${named[at]}" = RULES ]; then
             case "$kind" in
                 '' | text) ;;
-                *) hints[3]="${words[at]} is a table, and a rules text is wanted here" ;;
+                *) hints[3]="${words[at]} is a table, and a rules text is wanted here; the text that it holds stands in it from the 13th byte on" ;;
             esac
         elif [ -z "${hints[5]-}" ]; then
             hint=$(hint_of_table "$kind" "${words[at]}" "${named[at]}")
             [ -z "$hint" ] || hints[5]="${words[at]} is $hint"
         fi
     done
+}
+
+# Where an entry is wrong, tables behind may be missing, or stand in another order than when they were built.
+find_hint_of_order() {
+    [ "$crate" = atlas ] && [ "${#reads[@]}" -gt 0 ] || return 0
+    if [ "${#reads[@]}" -gt 2 ]; then
+        hints[6]="a table stands over the BACKs before it, and TABLE over all: name those with which it was built, in that order"
+    elif [ "${#reads[@]}" -eq 1 ] && [ "$(kind_of "${words[reads[0]]}")" = leaning ]; then
+        hints[6]="${words[reads[0]]} stands over follow-up tables: name the BACKs with which it was built, in that order"
+    fi
 }
 
 # The kind of a table by the first bytes of its file; nothing where it cannot be read.
@@ -123,7 +139,8 @@ kind_of() {
         FREEZER1) echo former ;;
         FREEZER2) echo plain ;;
         FREEZERC) echo chained ;;
-        FREEZERA) echo leaning ;;
+        FREEZERB) echo leaning ;;
+        FREEZERA) echo older ;;
         *) echo text ;;
     esac
 }
@@ -134,6 +151,7 @@ hint_of_table() {
     case "$1 $crate $command $3" in
         former\ *\ OLD) ;;
         former\ *) echo "a table of the former format: freezer migrate OLD NEW writes it anew" ;;
+        older\ *) echo "a table of an older atlas build: build it again over the same tables" ;;
         text\ *) echo "no table; if it is a rules text, freezer build RULES TABLE makes one of it" ;;
         plain\ *\ OLD | leaning\ *\ OLD) echo "a table of today's format: it needs no migrate" ;;
         chained\ freezer\ chain*\ TABLE) ;;
@@ -144,7 +162,6 @@ hint_of_table() {
         leaning\ freezer\ *\ BACK) echo "a table of atlas build: build the text by atlas build over it" ;;
         leaning\ freezer\ *) hint_of_other "atlas build" atlas "${command#chain}" ;;
         plain\ freezer\ chain*\ TABLE) hint_of_other "freezer build" freezer "${command#chain}" ;;
-        plain\ atlas\ *\ TABLE) hint_of_other "freezer build" freezer "$command" ;;
     esac
 }
 

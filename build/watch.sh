@@ -6,8 +6,7 @@
 to_build=2200
 to_check=900
 
-# The command reads files, and somebody sees what is told. A session or a list of
-# questions would be written over.
+# The command reads files, and somebody sees what is told. A session would be written over, and so would answers.
 is_watched() {
     [ -t 2 ] && [ -z "${FREEZER_QUIET+set}" ] && [ "${TERM:-dumb}" != dumb ] || return 1
     [ "${#reads[@]}" -gt 0 ] && [ "${words[0]}" != play ] && [ "${words[0]}" != ask ]

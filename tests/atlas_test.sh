@@ -37,14 +37,17 @@ test_no_file_stands_twice_among_the_names_of_atlas() {
     refused_by_atlas verdict one FEN two ./two
     refused_by_atlas premises A ./A
     refused_by_atlas premises A one two link
+    refused_by_atlas build A ./A
+    refused_by_atlas each one FEN link
+    refused_by_atlas ask one two ./two
     is "$(cat "$FAKE_LOG")" "" "checks: the program is not built for this"
 }
 
 test_words_of_atlas_that_are_too_few_or_too_many_are_the_program_s() {
     make_built_toy_of_two
     echo 'echo counted; exit 2' > A
-    run "$toy/atlas" build A ./A
-    is "$status $out" "2 counted" "the answer with no table behind"
+    run "$toy/atlas" build A
+    is "$status $out" "2 counted" "the answer with no table"
     run "$toy/atlas" build A A 1 2 3 4 5 6 7 8 9 10 11 12 13 14 15 16 17
     is "$status $out" "2 counted" "the answer with seventeen"
 }
@@ -55,7 +58,8 @@ test_names_that_are_none_are_the_program_s() {
     make_built_toy_of_two
     echo one > one
     echo 'echo told; exit 4' > A
-    for words in 'line one one white two' 'line one one blue one' 'play one white white two' 'line one FEN white'; do
+    for words in 'line one one white two' 'line one one blue one' 'play one white white two' 'line one FEN white' \
+        'each one one' 'ask one'; do
         # shellcheck disable=SC2086 # several words
         run "$toy/atlas" $words
         is "$status $out" "7 ${words// /$'\n'}" "the answer to $words"

@@ -10,7 +10,8 @@ make_refusing_toy() {
     cp "$repository/tests/fake/ending" "$toy/crates/freezer/out/freezer"
     cp "$repository/tests/fake/ending" "$toy/crates/atlas/out/atlas"
     printf 'FREEZER2\0\0\0\0\1\0\0\0' > plain
-    printf 'FREEZERA\0\0\0\0\1\0\0\0' > leaning
+    printf 'FREEZERB\0\0\0\0\1\0\0\0' > leaning
+    printf 'FREEZERA\0\0\0\0\1\0\0\0' > older
     printf 'FREEZERC\0\0\0\0\1\0\0\0' > chained
     printf 'FREEZER1\0\0\0\0\1\0\0\0' > former
     echo 'freezer 1' > rules
@@ -38,8 +39,10 @@ test_status_2_is_told_how_the_command_is_used() {
     has "$err" "freezer: usage: freezer query TABLE"
     told 2 freezer query plain 8/8/8/8/8/4k3/4p3/4K3 w - -
     has "$err" "a FEN is one word: put it into quotes"
+    told 2 atlas build rules
+    is "$err" "atlas: usage: $(line_of atlas build)" "too few words"
     told 2 atlas build rules table
-    is "$err" "atlas: usage: $(line_of atlas build)" "too few tables"
+    is "$err" "" "no table behind"
     told 2 atlas why
     has "$err" 'atlas: usage: atlas why TABLE "FEN" SIDE [BACK ..]'
 }
@@ -52,7 +55,7 @@ test_all_commands_are_told_where_the_word_is_none() {
         is "$(grep -c '^freezer: freezer ' <<< "$err")" 15 "the commands told at '$words'"
     done
     told 2 atlas -h
-    is "$(grep -c '^atlas: atlas ' <<< "$err")" 11 "the commands of atlas"
+    is "$(grep -c '^atlas: atlas ' <<< "$err")" 12 "the commands of atlas"
     told 2 freezer each plain FEN
     is "$err" "freezer: each is a command of atlas: $(line_of atlas each)" "a command of the other program"
 }
@@ -90,16 +93,26 @@ test_a_fen_with_fields_missing_is_told() {
     is "$err" "" "four fields"
     told 4 freezer moves ''
     has "$err" "this one 0"
+    told 4 freezer query plain '8/8/8/8/8/4k3/4p3/4K3 b'
+    has "$err" 'freezer: most likely: "8/8/8/8/8/4k3/4p3/4K3 b - -"'
+    told 4 atlas each leaning '8/8/8/8/3pP3/8/8/k1K5 b - e3 0'
+    has "$err" 'atlas: most likely: "8/8/8/8/3pP3/8/8/k1K5 b - e3"'
+    told 4 freezer moves '4k3/8/8/8/8/8/8/4K2R w K - 0 1'
+    is "$err" "freezer: castling is left out: the third field of a FEN is -" "castling"
 }
 
 test_a_file_of_another_kind_is_told() {
     make_refusing_toy
     told 3 freezer solve plain 'a b c d'
-    is "$err" "freezer: plain is a table, and a rules text is wanted here" "a table for rules"
+    is "${err%;*}" "freezer: plain is a table, and a rules text is wanted here" "a table for rules"
     told 5 freezer query rules 'a b c d'
     has "$err" "rules is no table; if it is a rules text, freezer build RULES TABLE makes one of it"
     told 5 atlas line plain 'a b c d' white leaning
-    is "$err" "atlas: plain is a table of freezer build: $(line_of freezer line)" "a plain table"
+    is "$err" "" "a plain table"
+    told 5 atlas query older 'a b c d'
+    is "$err" "atlas: older is a table of an older atlas build: build it again over the same tables" "an older table"
+    told 5 atlas each former 'a b c d' plain
+    has "$err" "former is a table of the former format: freezer migrate OLD NEW"
     told 5 freezer play leaning 'a b c d' white
     is "$err" "freezer: leaning is a table of atlas build: $(line_of atlas play)" "a table over others"
     told 5 freezer chainquery plain 'a b c d'
@@ -110,6 +123,19 @@ test_a_file_of_another_kind_is_told() {
     has "$err" "chained is a table of freezer chain: freezer chainquery TABLE"
     told 5 atlas check leaning plain chained
     has "$err" "chained is a table of freezer chain: build its text by atlas build"
+}
+
+test_tables_behind_in_another_order_are_told() {
+    make_refusing_toy
+    told 6 atlas check leaning
+    is "$err" "atlas: leaning stands over follow-up tables: name the BACKs with which it was built, in that order" "no BACK"
+    cp plain another
+    told 6 atlas line leaning 'a b c d' white plain another
+    has "$err" "a table stands over the BACKs before it"
+    told 6 atlas check leaning plain
+    is "$err" "" "one BACK"
+    told 6 freezer check plain
+    is "$err" "" "a plain table"
 }
 
 test_the_page_of_commands_has_the_lines_of_use() {
@@ -132,6 +158,7 @@ test_bash_completes_commands_files_and_sides() {
     : > table.t
     mkdir tables
     is "$(offered freezer qu)" "query" "a command"
+    is "$(offered ./atlas a)" "ask" "a command for programs"
     is "$(offered ./atlas p)" "play premises" "commands of atlas"
     is "$(offered freezer query tab)" "table.t tables" "files"
     is "$(offered freezer line table.t 'a fen' '')" "white black" "sides"

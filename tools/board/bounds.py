@@ -61,9 +61,11 @@ def read_value(value):
     return said
 
 
-def behind(bounds):
-    """What the bounds of a table behind say to the table before it: a win without its plies."""
-    return {side: Bound(WIN, 0) if bound.kind == WIN else bound for side, bound in bounds.items()}
+def behind(bounds, counting):
+    """What the bounds of a table behind say to the table before it: the plies of a win for these sides alone."""
+    return {
+        side: Bound(WIN, 0) if bound.kind == WIN and side not in counting else bound for side, bound in bounds.items()
+    }
 
 
 def rank(own, other):

@@ -103,12 +103,12 @@ class Calls:
             self.length = 0
             self.age += 1
 
-    def start(self, *words, files=()):
+    def start(self, *words, files=(), stdin=subprocess.DEVNULL):
         """A call that may take long, for who waits for it or ends it. It has these open files too."""
         try:
             child = subprocess.Popen(
                 [self.programs[words[0]], *words[1:]],
-                stdin=subprocess.DEVNULL,
+                stdin=stdin,
                 stdout=subprocess.PIPE,
                 stderr=subprocess.DEVNULL,
                 pass_fds=files,

@@ -1,12 +1,14 @@
 """The head of a table file: its kind, its rules text, and the men that this text holds fast."""
 
 import os
+import re
 
 from .groups import fast_men
 
 PLAIN, CHAINED, LEANING = "plain", "chained", "leaning"
-KINDS = {b"FREEZER2": PLAIN, b"FREEZERC": CHAINED, b"FREEZERA": LEANING}
+KINDS = {b"FREEZER2": PLAIN, b"FREEZERC": CHAINED, b"FREEZERB": LEANING}
 LONGEST_TEXT = 65_536
+UNCOUNTED = re.compile(r"\s*exit\s+(white|black)\s+wins\s+if\s")
 
 
 class NoTable(Exception):
@@ -26,6 +28,10 @@ class Head:
     @property
     def name(self):
         return os.path.basename(self.path)
+
+    def is_numbered(self, side):
+        """Whether each exit line by which this side wins gives its plies."""
+        return not any(found and found[1] == side for found in map(UNCOUNTED.match, self.text.splitlines()))
 
     def shown(self):
         """What the page is told of the table."""

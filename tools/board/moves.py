@@ -8,6 +8,9 @@ from .bounds import NOTHING, SIDES, behind, lost_by, opponent, paced_by, rank, r
 BOUND = r"(?:wins within \d+|holds|none)"
 LINE = re.compile(rf"(\S+) (?:(white {BOUND}), (black {BOUND})|exit ([a-z0-9 ]+?))(, renounced)?$")
 UNKNOWN = "unknown"
+# The answers of `ask` to a position outside: who says what it is worth, if anybody does.
+FAILS = re.compile(r"fails within \d+")
+BEHIND = re.compile(r"back (\d+) (.+), (.+)$")
 
 
 class Move:
@@ -20,6 +23,7 @@ class Move:
         self.bounds = bounds
         self.exit = None  # what is outside, where the move leaves the set
         self.renounced = False
+        self.counting = None  # the sides whose plies count, where a table behind says what the move is worth
 
     def shown(self, side, before):
         """What the page is told; `before` are the bounds of both sides before the move, where known."""
@@ -69,10 +73,26 @@ def is_open(move):
     return bool(move.exit) and move.said == f"exit {UNKNOWN}"
 
 
-def goes_behind(move, name, lines):
-    """Says of a move that leaves the set what the table of this name says there."""
+def read_answer(answer):
+    """The place of the BACK that `ask` names and the two lines of its bounds, or none and the value of an exit."""
+    words = FAILS.sub("none", answer)
+    if match := BEHIND.match(words):
+        return int(match[1]), [match[2], match[3]]
+    return None, [words.removeprefix("exit ") if words.startswith("exit ") else UNKNOWN]
+
+
+def goes_out(move, value):
+    """Says of a move that leaves the set what it is worth there."""
+    move.said = f"exit {value}"
+    move.bounds = read_value(value)
+
+
+def goes_behind(move, name, lines, counting):
+    """Says of a move that leaves the set what the table of this name says there, to a table in which the wins
+    of these sides have their plies."""
     move.said = ", ".join(lines)
-    move.bounds = behind(read_bounds(lines))
+    move.bounds = behind(read_bounds(lines), counting)
+    move.counting = counting
     move.exit = f"into {name}"
 
 

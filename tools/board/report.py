@@ -36,7 +36,7 @@ class Report(Course):
             if len(self.squeezes) < KEPT:
                 self.squeezes.append(words[3])
         elif words[0] == "exits" and len(self.exits) < KEPT:
-            self.exits.append({"count": int(words[1]), "men": words[2]})
+            self.exits.append({"count": int(words[1]), "men": words[2], "fen": words[3] if words[3:] else None})
 
     def told(self):
         return {

@@ -3,6 +3,7 @@ position."""
 
 import os
 
+from .bounds import SIDES
 from .course import MOST_BEHIND
 from .head import CHAINED, LEANING, PLAIN, read_head
 
@@ -52,6 +53,19 @@ class Tables:
         if self.heads[place].kind == PLAIN:
             return []
         return self.heads[1:place] if place else self.heads[1:]
+
+    def counting(self, place):
+        """The sides whose wins in the table at this place count to the mate, as far as the texts tell: each exit
+        line by which such a side wins gives its plies, there and in the tables behind."""
+        head = self.heads[place]
+        if head.kind == CHAINED or (head.kind == LEANING and not self.leant_on(place)):
+            return frozenset()
+        return frozenset(side for side in self.counting_behind(place) if head.is_numbered(side))
+
+    def counting_behind(self, place):
+        """Those whose wins in the tables behind have their plies."""
+        backs = self.leant_on(place)
+        return frozenset(side for side in SIDES if all(back.is_numbered(side) for back in backs))
 
     def way(self, command, place, fen, side):
         """The words that ask the table at this place for its best line, or why a bound is none; nothing

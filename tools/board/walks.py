@@ -9,6 +9,7 @@ BOUND = re.compile(r"(?:white|black) (?:wins within \d+|holds|none)$")
 MOVE = re.compile(r"[a-h][1-8][a-h][1-8][qrbn]?$")
 BEHIND = re.compile(r"back (\d+)$")
 LINE = re.compile(r"line (\d+)$")
+WANTED = "wanted "
 LONGEST = 60  # seconds, since all tables that are named may have to be read
 NOT_TOLD = "not told of a chained table, nor of one of atlas build without the tables behind it"
 
@@ -51,30 +52,38 @@ class Walks:
 
     def why(self, fen, side):
         """Why the side does not win: the way on which it is spoiled, or the replies that keep it from a
-        win; nothing behind the bound of a win."""
+        win, and then the way on which the opponent is; nothing behind the bound of a win."""
         place, lines = self.asked("why", fen, side)
         if place is None:
             return {"fen": fen, "refused": lines}
         told = {"fen": fen, "side": side, "bound": lines[0], "kind": read_bound(lines[0]).kind}
         if told["kind"] == NONE:
-            moves, rest = moves_of(lines[1:])
-            told["steps"] = self.steps(fen, moves)
-            told["end"] = self.end(place, rest)
+            told.update(self.failing(fen, place, lines[1:]))
         if told["kind"] == HOLD:
             rows, rest = rows_of(lines[1:])
             told["rows"] = self.calls.each_of(lambda row: self.steps(fen, row), rows)
-            # (behind the rows may stand why the opponent has no bound, which is not shown)
-            told["end"] = self.end(place, [] if rest and BOUND.match(rest[0]) else rest)
+            if rest and BOUND.match(rest[0]):
+                told["other"] = {"bound": rest[0], **self.failing(fen, place, rest[1:])}
+                rest = []
+            told["end"] = self.end(place, rest)
         return told
+
+    def failing(self, fen, place, lines):
+        """The way on which a side is spoiled, and its end."""
+        moves, rest = moves_of(lines)
+        return {"steps": self.steps(fen, moves), "end": self.end(place, rest)}
 
     def end(self, place, rest):
         """How the way to a spoiled bound ends; where it leaves the set, with the position outside and who
-        decides it: an exit line, which is told in its words, a table behind, or nobody."""
+        decides it: an exit line, which is told in its words, a table behind, or nobody, and then with what the
+        text lacks."""
         words, *more = rest or [""]
         if not words.startswith("exit ") or len(more) < 2:
             return {"words": words}
         fen, by = more[:2]
         end = {"words": words, "fen": fen, "by": by}
+        if wanted := [line.removeprefix(WANTED) for line in more[2:] if line.startswith(WANTED)]:
+            end["wanted"] = wanted
         if match := LINE.match(by):
             end.update(place=place, line=int(match[1]), text=line_of(self.tables.heads[place], int(match[1])))
         if match := BEHIND.match(by):

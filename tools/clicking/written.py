@@ -66,6 +66,9 @@ ANSWERS = {
     f"why over.t {START} black back.t": f"black none\nb8c8\nexit black holds\n{ASIDE}\nline 7\n",
     f"why over.t {CORNER} white back.t": "white holds\nh1h8\nh1h2 a8b8\n",
     f"why over.t {CORNER} black back.t": "black none\nh1h8\nmate\n",
+    f"why over.t {UP} white back.t":
+        "white holds\na8b8\nblack none\na8b8\nexit unknown\n"
+        "1k6/8/1K6/8/8/8/7R/8 w - - 0 1\nno line\nwanted black K:b8\n",
     f"why over.t {MATED} black back.t": "black none\nmate\n",
     f"why back.t {ASIDE} white": "white none\nrenounced\n",
     f"why back.t {ASIDE} black": f"black none\nh1h8\nc8d7\nexit draw\n{AWAY}\nback 1\n",
@@ -85,6 +88,11 @@ if [ "$1" = premises ]; then
     cmp -s "$2" '{text}' || exit 3
     words=" premises ${{words#* * * }}"
     sleep 0.3
+fi
+if [ "$1" = ask ]; then
+    echo begun >> '{begun}'
+    while read -r line; do "$0" "asked${{words# ask}} $line"; done
+    exit 0
 fi
 case "${{words# }}" in
 {cases}
@@ -107,12 +115,13 @@ def written(folder, name, content):
 
 
 def program(folder, answers=None):
-    """The program in this folder. It answers these words, or those above."""
+    """The program in this folder. It answers these words, or those above; `ask` answers a line as the word of
+    the tables and this line, and notes in the file `begun` that it was called."""
     cases = []
     for words, answer in (answers or ANSWERS).items():
         status, text = answer if isinstance(answer, tuple) else (0, answer)
         cases.append(f"'{words}') printf '%s' '{text}'; exit {status} ;;")
     text = written(folder, "text", TEXT.encode())
-    path = written(folder, "program", PROGRAM.format(text=text, cases="\n".join(cases)).encode())
+    path = written(folder, "program", PROGRAM.format(text=text, begun=os.path.join(folder, "begun"), cases="\n".join(cases)).encode())
     os.chmod(path, 0o700)
     return path

@@ -89,7 +89,7 @@ class Search:
         return list(enumerate((some or moves)[: self.options.lines], 1))
 
     def score(self, seen: Seen, move: Move) -> str:
-        return score_of(move, seen.side, self.asking.tables.heads[seen.place])
+        return score_of(move, seen.side, self.asking.tables.counting(seen.place))
 
     def line(self, seen: Seen, place: int, move: Move, way: list[str]) -> str:
         """A line on a move with the moves that follow it. Chess programs show the deepest first, so all that

@@ -3,7 +3,7 @@
 from collections import namedtuple
 
 from lib.chess import after, in_check, is_capture, legal_moves, write_fen
-from lib.rules import is_man, side_of_colour, value_of
+from lib.rules import first_fitting, is_man, lines_behind, side_of_colour, value_by, value_of
 from lib.sets import Set
 
 # A move: whether its side is free to make it, and the number or the value and lag behind it.
@@ -11,6 +11,7 @@ Arm = namedtuple("Arm", "move free number value lag end")
 SIDES = ("white", "black")
 HOLD = 1
 MOST_PLIES = 100
+LONGEST_COUNTED = 2002  # the code of a win within 1,000 plies
 
 
 def opponent(side):
@@ -52,30 +53,57 @@ def pair_value(white, black):
     return "unknown"
 
 
+def lines_count(rules, side):
+    """Whether each exit line by which the side wins gives its plies."""
+    return not any(line.value == f"{side} wins" for line in rules.exits)
+
+
 class Back:
-    """A table that answers where the exit lines do not."""
+    """A table that answers where the exit lines do not: its wins have no number of plies."""
+
+    counting = ()
 
     def __init__(self, game, codes):
         self.game, self.codes = game, codes
 
-    def value(self, position):
+    def value(self, _, position):
+        codes = self.codes_at(position)
+        return ("unknown", 0) if codes is None else (pair_value(*codes), 0)
+
+    def codes_at(self, position):
+        """White's code and Black's; None outside its set."""
         number = self.game.set.number(position)
-        if number is None:
-            return "unknown"
-        return pair_value(*(self.codes[side][number] for side in SIDES))
+        return None if number is None else tuple(self.codes[side][number] for side in SIDES)
+
+    def counts(self, side):
+        """Whether the plies of the side's wins in it count in a table over it."""
+        short = all(code <= LONGEST_COUNTED for code in self.codes[side] if is_win(code))
+        return short and lines_count(self.game.rules, side)
 
 
 class Several:
-    """Tables of which the first answers whose set has the position."""
+    """Tables of which the first answers whose set has the position; where none has it, the lines of the text
+    that stand behind `exit unknown if always`. A side's wins have their plies if they count in all tables."""
 
     def __init__(self, backs):
         self.backs = backs
+        self.counting = {side for side in SIDES if all(back.counts(side) for back in backs)}
 
-    def value(self, position):
-        for back in self.backs:
-            if back.game.set.number(position) is not None:
-                return back.value(position)
-        return "unknown"
+    def place(self, position):
+        """The place of the first table whose set has the position, or None."""
+        return next((k for k, back in enumerate(self.backs) if back.codes_at(position) is not None), None)
+
+    def value(self, rules, position):
+        place = self.place(position)
+        if place is None:
+            return value_by(lines_behind(rules), position)
+        codes = dict(zip(SIDES, self.backs[place].codes_at(position)))
+        value = pair_value(*codes.values())
+        side, _, verb = value.partition(" ")
+        if verb != "wins" or side not in self.counting:
+            return value, 0
+        plies = codes[side] // 2 - 1
+        return f"{value} {plies}", plies
 
 
 class Game:
@@ -98,8 +126,24 @@ class Game:
         """The value and the lag of a position outside."""
         value, lag = value_of(self.rules, position)
         if value == "unknown" and self.back is not None:
-            return self.back.value(position), 0
+            return self.back.value(self.rules, position)
         return value, lag
+
+    def counts(self, side):
+        """Whether the plies of the side's wins are plies to mate, where the exit lines are true."""
+        return lines_count(self.rules, side) and (self.back is None or side in self.back.counting)
+
+    def decider(self, position):
+        """The place of the exit line that decides the value of a position outside, or None where no line fits
+        or a table has it. Where no line gives a value, it is the last one that was asked and fits."""
+        first = first_fitting(self.rules.exits, position)
+        if self.back is None or (first is not None and self.rules.exits[first].value != "unknown"):
+            return first
+        if self.back.place(position) is not None:
+            return None
+        behind = lines_behind(self.rules)
+        further = first_fitting(behind, position)
+        return first if further is None else len(self.rules.exits) - len(behind) + further
 
     def mover(self, number):
         return "white" if self.positions[number].turn == "w" else "black"
@@ -138,7 +182,7 @@ class Game:
     def solve(self, side):
         """The codes of a side: what it wins, and where it fails, within 0, 1, 2 .. plies."""
         codes = [0 if position is None else HOLD for position in self.positions]
-        lags = max((line.lag for line in self.rules.exits), default=0)
+        lags = max((arm.lag for arms in self.arms for arm in arms or () if arm.number is None), default=0)
         open_numbers = [n for n, position in enumerate(self.positions) if position is not None]
         plies, changed = 0, True
         while changed or plies <= lags + 1:
@@ -194,8 +238,14 @@ def squeezes(game, white, black):
     return found
 
 
-def report_text(game, white, black):
-    """The text of the command `report` over these codes."""
+def class_of(position):
+    """The men of a position, White's in capitals."""
+    return "".join(sorted(position.men.values(), key="KQRBNPkqrbnp".index))
+
+
+def report_text(game, white, black, ranked=False):
+    """The text of the command `report` over these codes; that of `atlas` has the most frequent classes of open
+    exits first, each with its first position."""
     lines = [
         f"squeeze {w} {b} {write_fen(game.positions[w])}" for w, b in squeezes(game, white, black)
     ]
@@ -204,8 +254,10 @@ def report_text(game, white, black):
     for arms in game.arms:
         for arm in arms or []:
             if arm.number is None and arm.value == "unknown":
-                name = "".join(sorted(arm.end.men.values(), key="KQRBNPkqrbnp".index))
-                classes[name] = classes.get(name, 0) + 1
-    lines += [f"exits {count} {name}" for name, count in classes.items()]
-    lines.append(f"squeezes {pairs} unassigned {sum(classes.values())}")
+                classes.setdefault(class_of(arm.end), []).append(arm.end)
+    if ranked:
+        classes = dict(sorted(classes.items(), key=lambda item: -len(item[1])))
+    for name, ends in classes.items():
+        lines.append(f"exits {len(ends)} {name}" + (f" {write_fen(ends[0])}" if ranked else ""))
+    lines.append(f"squeezes {pairs} unassigned {sum(map(len, classes.values()))}")
     return "".join(line + "\n" for line in lines)

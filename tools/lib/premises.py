@@ -3,7 +3,6 @@ docs/users/formats.md."""
 
 from lib.chess import after, legal_moves, side_of, write_fen
 from lib.game import HOLD, SIDES, is_win, opponent
-from lib.rules import holds
 
 
 def exit_numbers(text):
@@ -20,12 +19,6 @@ def exits_of(game):
             end = after(position, move)
             if game.set.number(end) is None:
                 yield end
-
-
-def line_at(rules, position):
-    """The place of the first exit line that fits, or None."""
-    fits = (all(holds(condition, position) for condition in line.conditions) for line in rules.exits)
-    return next((place for place, fit in enumerate(fits) if fit), None)
 
 
 def men_of(position, side):
@@ -51,15 +44,6 @@ def men_show(line, position):
     return verb == "holds" and is_bare(position, opponent(side))
 
 
-def is_uncounted(line, side):
-    return line.value == f"{side} wins"
-
-
-def counts_wins(table, side):
-    """Whether the plies of the side's wins in the table are plies to mate."""
-    return not table.leans and not any(is_uncounted(line, side) for line in table.game.rules.exits)
-
-
 def says_as_much(table, line, position):
     """Whether the table's set has the position, and its codes say there at least what the line says."""
     number = table.game.set.number(position)
@@ -71,7 +55,7 @@ def says_as_much(table, line, position):
     side, verb, *plies = line.value.split(" ")
     if verb == "holds":
         return codes[side] == HOLD or is_win(codes[side])
-    soon = not plies or (codes[side] <= 2 + 2 * line.lag and counts_wins(table, side))
+    soon = not plies or (codes[side] <= 2 + 2 * line.lag and not table.leans and table.game.counts(side))
     return is_win(codes[side]) and soon
 
 
@@ -95,7 +79,7 @@ def bases_of(text, game, tables):
     """The lines that are printed of the exit lines of a text, where these tables may prove them."""
     decided = [[] for _ in game.rules.exits]
     for position in exits_of(game):
-        if (place := line_at(game.rules, position)) is not None:
+        if (place := game.decider(position)) is not None:
             decided[place].append(position)
     bases = [basis_of(tables, line, exits) for line, exits in zip(game.rules.exits, decided)]
     return [f"line {number} {basis}" for number, basis in zip(exit_numbers(text), bases)]

@@ -289,9 +289,29 @@ def holds(condition, position):
     return true != condition.negated
 
 
+def first_fitting(lines, position):
+    """The place of the first of these exit lines that fits, or None."""
+    fits = (all(holds(condition, position) for condition in line.conditions) for line in lines)
+    return next((place for place, fit in enumerate(fits) if fit), None)
+
+
+def ends_lines(line):
+    """Whether it is the line `exit unknown if always`."""
+    return line.value == "unknown" and line.conditions == [Condition(False, "always", [])]
+
+
+def lines_behind(rules):
+    """The exit lines behind the first `exit unknown if always`, which are asked behind all tables."""
+    first = next((place for place, line in enumerate(rules.exits) if ends_lines(line)), len(rules.exits))
+    return rules.exits[first + 1:]
+
+
+def value_by(lines, position):
+    """The value of a position outside by these lines, in words, and the lag of a win."""
+    place = first_fitting(lines, position)
+    return ("unknown", 0) if place is None else (lines[place].value, lines[place].lag)
+
+
 def value_of(rules, position):
-    """The value of a position outside, in words, and the lag of a win."""
-    for line in rules.exits:
-        if all(holds(condition, position) for condition in line.conditions):
-            return line.value, line.lag
-    return "unknown", 0
+    """The same by the lines of a text in their order, which `exit unknown if always` ends."""
+    return value_by(rules.exits, position)

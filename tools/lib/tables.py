@@ -6,7 +6,8 @@ from collections import namedtuple
 from lib.game import SIDES
 from lib.rules import LONGEST_TEXT, Refused, read_rules, size_of
 
-MAGIC, CHAINED, LEANING = b"FREEZER2", b"FREEZERC", b"FREEZERA"
+MAGIC, CHAINED, LEANING = b"FREEZER2", b"FREEZERC", b"FREEZERB"
+FORMER, OLDER = b"FREEZER1", b"FREEZERA"  # former tables of `freezer`, older ones of `atlas`
 HEAD = 16
 
 Table = namedtuple("Table", "text rules codes")

@@ -179,6 +179,44 @@ def narrowed_text(random, text):
         return narrowed
 
 
+# Lines that end a text for a plain table; the last three do not.
+ENDING = ["exit unknown if always"] * 5
+ENDING += ["exit unknown if !always", "exit unknown if always always", "exit unknown if check"]
+
+
+def followed_text(random, text):
+    """The text with lines behind one that gives no value, which are asked behind all tables."""
+    lines = [random.choice(ENDING), *(exit_line(random, 30) for _ in range(random.randint(0, 3)))]
+    lines += random.choice(LAST_EXITS)
+    return text.rstrip("\r\n") + "\n" + dressed(random, lines)
+
+
+def numbered_text(random, text):
+    """The text with plies in each exit line by which a side wins, so that its wins count in tables over it."""
+    lines = text.split("\n")
+    for place, line in enumerate(lines):
+        words = line.split()
+        if words[:1] == ["exit"] and words[2] == "wins" and words[3] == "if":
+            words.insert(3, str(random.choice((random.randint(0, 30), random.randint(0, 30), 1_000))))
+            lines[place] = " ".join(words)
+    return "\n".join(lines)
+
+
+def spoilt_fen(random, fen):
+    """A FEN as a user may write it, now and then with one fault."""
+    fields = fen.split(" ")
+    change = random.randrange(12)
+    if change == 0:
+        del fields[random.randrange(len(fields))]
+    elif change == 1:
+        place = random.randrange(len(fields))
+        fields[place] = fields[place].replace(random.choice(fields[place]), random.choice("18kKpPx/-wb0"), 1)
+    elif change == 2:
+        fields = fields[:4]
+    blank = random.choice(("", "", " ", "\t", "\r", "  "))
+    return blank + random.choice((" ", " ", "  ")).join(fields) + random.choice(("", "", blank))
+
+
 def spoilt_text(random, text):
     """The text with one change somewhere, which may make it refused."""
     lines = text.split("\n")

@@ -2,7 +2,7 @@
 
 from lib.chess import write_fen
 from lib.game import HOLD, SIDES, is_win
-from lib.premises import bases_of, counts_wins
+from lib.premises import bases_of
 
 
 def verdict_on(table, number):
@@ -19,7 +19,7 @@ def verdict_on(table, number):
 
 def won(table, side, code):
     """The verdict where this side alone wins."""
-    return f"{side} wins, mate within {code // 2 - 1}" if counts_wins(table, side) else f"{side} wins"
+    return f"{side} wins, mate within {code // 2 - 1}" if table.game.counts(side) else f"{side} wins"
 
 
 def beliefs(backs, table):
@@ -33,9 +33,8 @@ def beliefs(backs, table):
     ]
 
 
-def verdict_text(table, backs, number):
-    """What `verdict` prints by a table over others, all exact; each has its own text."""
-    believed = beliefs(backs, table)
+def verdict_text(table, believed, number):
+    """What `verdict` prints by an exact table where these lines are believed."""
     fen = write_fen(table.game.positions[number])
     lines = [fen, verdict_on(table, number), *believed, f"believed {len(believed)}"]
     return "".join(line + "\n" for line in lines)

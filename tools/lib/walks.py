@@ -8,21 +8,22 @@ MOST_LINES, LONGEST_LINE = 10_000, 64
 
 
 class Input:
-    """The lines that a session reads, and how much of it is taken."""
+    """The lines that a session reads, or `ask`, and how much of it is taken."""
 
-    def __init__(self, content):
+    def __init__(self, content, most=MOST_LINES, longest=LONGEST_LINE):
         self.content, self.taken, self.lines = content, 0, 0
+        self.most, self.longest = most, longest
 
     def next_line(self):
         """The next line without its blanks, or why there is none: a status and a last line."""
-        if self.lines == MOST_LINES:
+        if self.lines == self.most:
             return None, (13, "limit lines\n")
         if self.taken == len(self.content):
             return None, (0, "input ended\n")
         end = self.content.find(b"\n", self.taken)
         length = (len(self.content) if end < 0 else end) - self.taken
-        if length > LONGEST_LINE:
-            self.taken += LONGEST_LINE + 1
+        if length > self.longest:
+            self.taken += self.longest + 1
             return None, (13, "limit line length\n")
         line = self.content[self.taken:self.taken + length]
         self.taken += length + (end >= 0)
@@ -73,17 +74,21 @@ def hear(game, number, source):
 
 
 def walk(game, side, codes, number, source=None):
-    """Status and text of `line`; with a source of lines, of `play`."""
+    """Status and text of `line` of `freezer`; with a source of lines, of `play`."""
     return way(game, side, codes, number, source)[:2]
 
 
-def way(game, side, codes, number, source):
-    """Status, text, and the move by which the way leaves the set, if it does."""
+def way(game, side, codes, number, source, repeats=False):
+    """Status, text, and the move by which the way leaves the set, if it does. A line that `repeats` ends where
+    a position comes again."""
     text, refused = begin_or_refuse(game, side, codes, number)
     if refused is not None:
         return *refused, None
-    plies = 0
+    plies, seen = 0, set()
     while True:
+        if repeats and source is None and number in seen:
+            return 0, text + "repeated\n", None
+        seen.add(number)
         if (wrong := wrong_at(game, side, codes, number)) is not None:
             return wrong[0], text + wrong[1], None
         if (last := end_at(game, number)) is not None:
@@ -105,23 +110,23 @@ def way(game, side, codes, number, source):
 
 
 def walk_over(table, backs, side, number, source=None):
-    """Status and text of `line` or `play` over several tables, from a number of the first. Each has its game
-    and its codes, and may lean on those before it."""
-    status, text, arm = way(table.game, side, table.codes[side], number, source)
-    while arm is not None and (place := next_place(table, backs, arm.end)) is not None:
-        table, backs, position = backs[place], backs[:place], arm.end
+    """Status and text of `line` or `play` of `atlas`, from a number of the first table. Each has its game and its
+    codes, and may lean on those before it."""
+    status, text, arm = way(table.game, side, table.codes[side], number, source, True)
+    while arm is not None and (place := behind_at(table.game, arm.end)) is not None:
+        table, position = backs[place], arm.end
         number = table.game.set.number(position)
-        status, more, arm = way(table.game, side, table.codes[side], number, source)
+        status, more, arm = way(table.game, side, table.codes[side], number, source, True)
         text += f"back {place + 1}\n" + (named(more, place) if status == 6 else more)
     return status, text
 
 
-def next_place(table, backs, position):
-    """The place of the table that goes on from a position outside: where the exit lines say nothing, the first
-    one whose set has it."""
-    if not table.leans or value_of(table.game.rules, position)[0] != "unknown":
+def behind_at(game, position):
+    """The place of the table that tells the value of a position outside: where the exit lines say nothing, the
+    first one whose set has it."""
+    if game.back is None or value_of(game.rules, position)[0] != "unknown":
         return None
-    return next((k for k, back in enumerate(backs) if back.game.set.number(position) is not None), None)
+    return game.back.place(position)
 
 
 def named(text, place):

@@ -32,7 +32,7 @@ def see_session(folder: str, checks: Checks):
     """All of the session."""
     path = program(folder, {**ANSWERS, **FURTHER})
     programs = {"freezer": path, "atlas": path}
-    over = table_file(folder, "over.t", b"FREEZERA", TEXT)
+    over = table_file(folder, "over.t", b"FREEZERB", TEXT)
     back = table_file(folder, "back.t", b"FREEZER2", BACK)
     with Engine(programs, over, back) as engine:
         see_greeting(engine, checks)
@@ -63,7 +63,7 @@ def see_moves(engine: Engine, checks: Checks):
     checks.same("the one that is asked for", best(told), "b8c8")
     checks.same("none of those", best(engine.ask("go searchmoves e2e4")), "(none)")
     told = engine.ask("go")
-    checks.same("a loss by a table behind", firsts(told)[1:], ["depth 1 multipv 2 score cp -19999 pv b8c8"])
+    checks.same("a loss by a table behind", firsts(told)[1:], ["depth 1 multipv 2 score mate -3 pv b8c8"])
     engine.send("go infinite")
     line = "info depth 2 multipv 1 score cp 0 upperbound"
     while not (told := engine.lines.get(timeout=10)).startswith("info depth 2"):

@@ -31,11 +31,20 @@ function showBoards(squeezes) {
   at("more").hidden = squeezes.length <= told.boards;
 }
 
+// A class of open exits; atlas names the first position of each.
+function exitItem({ count, men, fen }) {
+  const words = `${men}: ${count} open exits`;
+  if (!fen) return make("li", words);
+  const item = make("li", "");
+  item.append(makeButton(words, "reply", () => told.open(fen)));
+  return item;
+}
+
 function showReport(report) {
   told.report = report;
   at("no-report").hidden = report.can;
   at("report-said").textContent = saidOf(report);
-  at("exits").replaceChildren(...report.exits.map(({ count, men }) => make("li", `${men}: ${count} open exits`)));
+  at("exits").replaceChildren(...report.exits.map(exitItem));
   showBoards(report.squeezes);
 }
 

@@ -48,18 +48,25 @@ const bestLine = shown(async (game, side) => {
 });
 
 // Who decided the exit at the end of a way.
-function saidOfEnd({ words, by, text, table }) {
+function saidOfEnd({ words, by, text, table, wanted }) {
   if (words === "renounced") return "all moves that are left are renounced";
   if (text !== undefined) return `${words}, by ${by}: ${text}`;
   if (table !== undefined) return `${words}, by ${table}, a table behind`;
-  return by ? `${words}: ${by} says what it is worth` : words;
+  const lacks = wanted ? `; the text lacks ${wanted.join(", or ")}` : "";
+  return by ? `${words}: ${by} says what it is worth${lacks}` : words;
 }
 
-function saidOfWhy({ bound, kind, side, steps, rows, end }, turn) {
+// What is said of the last row, the way on which the opponent does not get what he hopes for.
+function saidOfOther(other) {
+  return other ? `; ${other.bound} by the last one, then ${saidOfEnd(other.end)}` : "";
+}
+
+function saidOfWhy({ bound, kind, side, steps, rows, end, other }, turn) {
   if (kind === "none") return `${bound}; ${inPlies(steps.length)}, then ${saidOfEnd(end)}`;
   if (kind !== "hold") return `${bound}: nothing keeps it from that`;
-  if (end.words || !rows.length) return `${bound}; ${end.words || "no move is left"}`;
-  return `${bound}; ${turn === side ? "each move, and the first reply" : "the replies"} after which ${side} has no win`;
+  if (end.words || !rows.length) return `${bound}; ${end.words || "no move is left"}${saidOfOther(other)}`;
+  const each = turn === side ? "each move, and the first reply" : "the replies";
+  return `${bound}; ${each} after which ${side} has no win${saidOfOther(other)}`;
 }
 
 function rowItem(row, play) {
@@ -78,7 +85,8 @@ const why = shown(async (game, side) => {
   const way = await askWay(game, "why", side);
   if (!way) return;
   say(way.refused ?? saidOfWhy(way, game.position().turn));
-  if (way.rows) showRows(way.rows, way.fen, game.play);
+  const last = way.other?.steps.length ? [way.other.steps] : [];
+  if (way.rows) showRows([...way.rows, ...last], way.fen, game.play);
   if (way.steps?.length) game.put(way.steps.map((step, at) => ({ ...step, last: at + 1 === way.steps.length })));
   if (way.end?.line) pointAt(way.end.place, way.end.line);
 });

@@ -6,9 +6,9 @@ from lib.refusals import faults
 from lib.refusals.case import Case
 from lib.refusals.faults import Same, Stage
 from lib.refusals.fixtures import (
-    A, A_BLACK, A_FILE, A_WHITE, BOUNDS, CHAINED_FILE, H, H_BLACK, H_FILE, H_WHITE, IN_A, IN_H, LINE_IN_A, LINE_IN_H,
-    OPEN_IN_A, OPEN_IN_H, OVER_WHITE, PREMISES_OF_H, REPORT_OF_A, REPORT_OF_H, SAID_IN_A, SAID_IN_H, SESSION_IN_A,
-    SESSION_IN_H, SIZE_OF_A, VERDICT_OF_H, altered, files_of, table,
+    A, A_BLACK, A_FILE, A_WHITE, BOUNDS, CHAINED_FILE, EACH_IN_H, FIRST_IN_H, H, H_BLACK, H_FILE, H_WHITE, IN_A, IN_H,
+    LINE_IN_A, LINE_IN_H, OPEN_IN_A, OPEN_IN_H, OVER_WHITE, PREMISES_OF_H, REPORT_OF_A, REPORT_OF_H, SAID_IN_A,
+    SAID_IN_H, SAID_TO_ASK, SESSION_IN_A, SESSION_IN_H, SIZE_OF_A, TOLD_BY_ASK, VERDICT_OF_H, altered, files_of, table,
 )
 from lib.tables import CHAINED, LEANING
 
@@ -92,18 +92,18 @@ def atlas():
     twice, walked = same_of("TABLE"), {"TABLE": "H.t", "FEN": IN_H, "SIDE": "white", **BACKS}
     count = counted
     yield "build", command(
-        {"RULES": "H", "NEW": "new", **BACKS}, "built 4\n", count(3, 2), same_of("RULES", "NEW"), faults.rules(),
+        {"RULES": "H", "NEW": "new", **BACKS}, "built 4\n", count(2, 2), same_of("RULES", "NEW"), faults.rules(),
         *behind(True), faults.written(), made={"new": H_FILE},
     )
     yield "check", command(
-        {"TABLE": "H.t", **BACKS}, "exact 4 over 2 8\n", count(2, 1), twice, faults.leaning(), *behind(True),
+        {"TABLE": "H.t", **BACKS}, "exact 4 over 2 8\n", count(1, 1), twice, faults.either(), *behind(True),
         wrong_over(),
     )
-    yield "query", command({"TABLE": "H.t", "FEN": IN_H}, BOUNDS, faults.count(2, 2), fen, faults.leaning(), place)
+    yield "query", command({"TABLE": "H.t", "FEN": IN_H}, BOUNDS, faults.count(2, 2), fen, faults.either(), place)
     last = together(place, faults.unbounded(OPEN_IN_H), wrong_over())
     for name, text, given in (("line", LINE_IN_H, b""), ("play", SESSION_IN_H, SAID_IN_H)):
         yield name, command(
-            walked, text, count(4, 3), twice, faults.side(), fen, faults.leaning(), *behind(False), last, given=given
+            walked, text, count(3, 3), twice, faults.side(), fen, faults.either(), *behind(False), last, given=given
         )
     yield "why", command(
         walked, "white wins within 2\n", count(3, 3), twice, faults.side(), fen, faults.either(), *behind(False),
@@ -117,11 +117,14 @@ def atlas():
         {"RULES": "H", **BACKS}, PREMISES_OF_H, count(1, 1), same_of("RULES"), faults.rules(), *behind(True)
     )
     yield "report", command(
-        {"TABLE": "H.t", **BACKS}, REPORT_OF_H, count(2, 1), twice, faults.leaning(), *behind(False)
+        {"TABLE": "H.t", **BACKS}, REPORT_OF_H, count(1, 1), twice, faults.either(), *behind(False)
     )
     yield "each", command(
-        {"TABLE": "H.t", "FEN": IN_H}, "Kb8 white wins within 1, black none\n", faults.count(2, 2), fen,
-        faults.either(), place,
+        {"TABLE": "H.t", "FEN": FIRST_IN_H, **BACKS}, EACH_IN_H, count(2, 2), twice, fen, faults.either(),
+        *behind(False), place,
+    )
+    yield "ask", command(
+        {"TABLE": "H.t", **BACKS}, TOLD_BY_ASK, count(1, 1), twice, faults.either(), *behind(False), given=SAID_TO_ASK
     )
     yield "size", command({"RULES": "A"}, SIZE_OF_A, faults.count(1, 1), faults.rules())
 

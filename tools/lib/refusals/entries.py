@@ -15,6 +15,7 @@ ASKED = "formats.md, Why: a kept code that is not the local one ends the text; t
 NO_BOUND, OUT = "no bound\n", "outside\n"
 # What `why` says of 5 in A, but for its last line.
 LOST = "white none\nb8c8\nexit unknown\n2k5/8/1K6/8/8/8/8/7R w - - 0 1\n"
+NO_LINE = "no line\nwanted black K:c8\n"
 # N without its line: each way out is unknown, and so is the value of its positions. A over it is as A alone.
 EMPTY = table(N.replace("exit white wins if always\n", ""), [5, 5], [5, 5])
 BARE = table(A, A_WHITE, A_BLACK, LEANING)
@@ -89,10 +90,11 @@ def lists():
         (("check", "bare.t", "N.t", "e.t"), 6, "wrong white 5 kept 5 given 6\n"),
         (("check", "L.t", "e.t", "N.t"), 6, "wrong white 5 kept 6 given 5\n"),
         (("check", "L.t", "N.t", "e.t"), 0, "exact 8 over 2 2\n"),
+        (("check", "L.t"), 6, "wrong white 5 kept 6 given 5\n"), (("check", "bare.t"), 0, "exact 8\n"),
         # BACKs that are named with a plain table are opened and not asked.
         (("why", "A.t", IN_A, "white", "nowhere"), 12, "missing back 1\n"),
         (("why", "A.t", IN_A, "white", "N.t", "A"), 5, "back 2: magic\n"),
-        (("why", "A.t", OPEN_IN_A, "white", "N.t", "e.t"), 0, LOST + "no line\n"),
+        (("why", "A.t", OPEN_IN_A, "white", "N.t", "e.t"), 0, LOST + NO_LINE),
     ):
         yield Case("atlas", words, files, status, text, says)
 
@@ -172,9 +174,9 @@ def journeys():
 
 def reasons():
     """`why`: the codes on its way, those behind a hold, and none of a win or of a BACK."""
-    to_a1 = "black none\na8b8\nh1a1\nexit unknown\n1k6/8/1K6/8/8/8/8/R7 b - - 0 1\nno line\n"
+    to_a1 = "black none\na8b8\nh1a1\nexit unknown\n1k6/8/1K6/8/8/8/8/R7 b - - 0 1\nno line\nwanted white R:a1\n"
     for white, black, fen, side, status, text in (
-        ({}, {}, OPEN_IN_A, "white", 0, LOST + "no line\n"), ({}, {}, IN_A, "white", 0, "white wins within 2\n"),
+        ({}, {}, OPEN_IN_A, "white", 0, LOST + NO_LINE), ({}, {}, IN_A, "white", 0, "white wins within 2\n"),
         ({"at4": 8}, {}, IN_A, "white", 0, "white wins within 3\n"), ({}, {}, IN_H, "white", 7, OUT),
         ({"at5": 7}, {}, OPEN_IN_A, "white", 6, "white none\nwrong white 5 kept 7 given 5\n"),
         ({"at5": 3}, {}, OPEN_IN_A, "white", 6, "white none\nwrong white 5 kept 3 given 5\n"),
@@ -203,7 +205,8 @@ def deciders():
         (BARE, ("H.t",), "no line"), (BARE, (), "no line"), (A_FILE, ("e.t",), "no line"),
     ):
         files = {"t": content, "e.t": EMPTY, **files_of(["H.t"])}
-        yield Case("atlas", ("why", "t", OPEN_IN_A, "white", *backs), files, 0, f"{LOST}{end}\n", says)
+        told = LOST + (NO_LINE if end == "no line" else f"{end}\n")
+        yield Case("atlas", ("why", "t", OPEN_IN_A, "white", *backs), files, 0, told, says)
 
 
 # White's king goes to and fro and renounces all else; Black's is shut in on three squares by two rooks.
@@ -215,8 +218,9 @@ MOST_PLIES = 100
 
 
 def cuts():
-    """A line from a hold is cut after 100 plies, a session is not."""
-    says = "commands.md, line and play: the line ends with `cut` after 100 plies"
+    """A line of `freezer` from a hold is cut after 100 plies, one of `atlas` ends where a position comes again, and
+    a session does not."""
+    says = "commands.md, line and play: a line from a hold ends with `cut` after 100 plies, or `repeated`"
     fen = "7k/8/8/R7/8/8/6R1/K7 w - - 0 1"
     white = ["a1b1", "b1a1"] * 100
     black = ["h8h7", *["h7h6", "h6h7"] * 100]
@@ -224,7 +228,10 @@ def cuts():
     line = "white holds\n" + "".join(f"{move}\n" for move in moves[:MOST_PLIES]) + "cut\n"
     plain, over = (table(SHUT_IN, [1] * 12, [5] * 6 + [7] * 6, magic) for magic in (MAGIC, LEANING))
     yield Case("freezer", ("line", "t", fen, "white"), {"t": plain}, 0, line, says)
+    # With both kings on b1 and h7 after two plies, and after six.
+    line = "white holds\na1b1\nh8h7\nb1a1\nh7h6\na1b1\nh6h7\nrepeated\n"
     yield Case("atlas", ("line", "t", fen, "white", "N.t"), {"t": over, "N.t": N_FILE}, 0, line, says)
+    yield Case("atlas", ("line", "t", fen, "white"), {"t": plain}, 0, line, says)
     for count in (49, 50, 51, 150):
         said = "".join(f"{move}\n" for move in black[:count])
         told = "".join(f"move {one}\nreply {other}\n" for one, other in zip(white[:count], black))
@@ -234,6 +241,61 @@ def cuts():
             yield Case(program, ("play", "t", fen, "white", *backs), files, 0, told, says, said.encode(), len(said))
 
 
+def counted():
+    """Wins of a BACK with their plies, up to 1,000 of them, where each of its exit lines gives its own."""
+    says = "formats.md, Tables over others: a win has its plies where the side's wins count in all tables"
+    for lag, told in ((0, 1), (3, 4), (999, 1000), (1000, 0)):
+        text = N.replace("wins if", f"wins {lag} if")
+        back = table(text, [4 + 2 * lag] * 2, N_BLACK)
+        # Black goes to c8 from b8 if White's win there takes longer than the one behind Ka8.
+        at5 = 4 + 2 * max(told, 1)
+        over = table(A, altered(OVER_WHITE, at5=at5), A_BLACK, LEANING)
+        files = {"n.t": back, "t": over, "A": A.encode()}
+        plies, value = at5 // 2 - 1, f"white wins {told}" if told else "white wins"
+        yield Case("atlas", ("build", "A", "new", "n.t"), files, 0, "built 8\n", says, made={"new": over})
+        yield Case("atlas", ("check", "t", "n.t"), files, 0, "exact 8 over 2\n", says)
+        mate = f", mate within {plies}" if told else ""
+        believed = "back 1 line 5 believed 2k5/8/1K6/8/8/8/8/R7 b - - 0 1\nbelieved 1\n"
+        verdict = f"{OPEN_IN_A}\nwhite wins{mate}\n{believed}"
+        yield Case("atlas", ("verdict", "t", OPEN_IN_A, "n.t"), files, 0, verdict, says)
+        # Of two moves that are equally long the first is played.
+        if told > 1:
+            line = f"white wins within {plies}\nb8c8\nexit {value}\nback 1\nwhite wins within {lag + 1}\nh1a1\n"
+            yield Case("atlas", ("line", "t", OPEN_IN_A, "white", "n.t"), files, 0, f"{line}exit white wins {lag}\n", says)
+        # Beside a table whose wins have no plies this one's have none.
+        files = {**files, "new": table(A, OVER_WHITE, A_BLACK, LEANING), "N.t": N_FILE}
+        yield Case("atlas", ("check", "new", "n.t", "N.t"), files, 0, "exact 8 over 2 2\n", says)
+
+
+# Black's king on d8: its table does not have the step to c8.
+D = N.replace("K:c8", "K:d8").replace("wins if", "wins 1 if")
+D_FILE = table(D, [6, 6], [5, 5])
+FOLLOWED = "exit unknown if always\nexit white wins 7 if on:black:K:c8\n"
+
+
+def behind_all():
+    """Lines behind `exit unknown if always`: asked where no table behind has the position."""
+    says = "formats.md, Tables over others: the lines behind are asked where no table has the position"
+    files = {"R": (A + FOLLOWED).encode(), "d.t": D_FILE, "e.t": EMPTY}
+    plain, over = table(A + FOLLOWED, A_WHITE, A_BLACK), table(A + FOLLOWED, altered(A_WHITE, at5=18), A_BLACK, LEANING)
+    held = table(A + FOLLOWED, A_WHITE, A_BLACK, LEANING)
+    for backs, due in (((), plain), (("d.t",), over), (("e.t",), held), (("e.t", "d.t"), held), (("d.t", "e.t"), held)):
+        yield Case("atlas", ("build", "R", "new", *backs), files, 0, "built 8\n", says, made={"new": due})
+    behind = "2k5/8/1K6/8/8/8/8/7R w - - 0 1"
+    files = {**files, "t": over}
+    believed = "1k6/8/1K6/8/8/8/8/R7 b - - 0 1".replace("1k6", "3k4")
+    for words, text, given in (
+        (("each", "t", OPEN_IN_A, "d.t"), "Kc8 exit white wins 7\nKa8 white wins within 1, black none\n", ""),
+        (("ask", "t", "d.t"), "exit white wins 7\ninput ended\n", behind),
+        (("line", "t", OPEN_IN_A, "white", "d.t"), "white wins within 8\nb8c8\nexit white wins 7\n", ""),
+        (("premises", "R", "d.t"), f"back 1\nline 5 believed {believed}\nrules\nline 5 asks nothing\n"
+         f"line 6 believed {behind}\nbelieved 2\nwhite true if believed\nblack true if believed\n", ""),
+        (("verdict", "t", OPEN_IN_A, "d.t"), f"{OPEN_IN_A}\nwhite wins, mate within 8\nback 1 line 5 believed {believed}\n"
+         f"table line 6 believed {behind}\nbelieved 2\n", ""),
+    ):
+        yield Case("atlas", words, files, 0, text, says, given.encode())
+
+
 def cases():
-    for found in (checks, lists, queries, walks, journeys, reasons, deciders, cuts):
+    for found in (checks, lists, queries, walks, journeys, reasons, deciders, cuts, counted, behind_all):
         yield from found()

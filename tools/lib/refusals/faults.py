@@ -3,8 +3,8 @@
 from collections import namedtuple
 
 from lib.refusals import heads
-from lib.refusals.fixtures import FORMER, N, N_BLACK, N_WHITE, OUTSIDE, altered, table
-from lib.tables import CHAINED, LEANING, MAGIC
+from lib.refusals.fixtures import N, N_BLACK, N_WHITE, OUTSIDE, altered, table
+from lib.tables import CHAINED, FORMER, LEANING, MAGIC
 
 # What stands in a slot of a call instead of its right word: a text, the number of words for the slot
 # COUNT, or the slot whose word it is. `content` is that of the file, where there is one of this name.
@@ -88,13 +88,13 @@ def rules():
     return Stage(found, [found[0], found[5], *found[-7::3]])
 
 
-def opening(slot, prefix, wanted, missing, checked=()):
+def opening(slot, prefix, wanted, missing, checked=(), is_named=False):
     """The faults of a table file that is opened, and of codes where it is checked at once."""
     name, found, few = f"{slot}.bad".replace(" ", ""), list(lookups(slot, missing)), []
     few += [found[0], found[5]]
     for magic in wanted:
         faulty = [*heads.single_faults(magic), *heads.paired_faults(magic), *heads.largest(magic)]
-        faulty += heads.other_magics(wanted)
+        faulty += heads.other_magics(wanted, is_named)
         found += [opened(slot, name, prefix, head) for head in faulty]
         few += [opened(slot, name, prefix, head) for head in heads.few_faults(magic)]
     return Stage([*found, *checked], [*few, *checked])
@@ -112,12 +112,9 @@ def chained():
     return opening("TABLE", "table", (CHAINED,), "table")
 
 
-def leaning():
-    return opening("TABLE", "table", (LEANING,), "table")
-
-
 def either():
-    return opening("TABLE", "table", (MAGIC, LEANING), "table")
+    """TABLE of `atlas`, plain or over others."""
+    return opening("TABLE", "table", (MAGIC, LEANING), "table", is_named=True)
 
 
 def former():
@@ -140,7 +137,7 @@ def behind(place, is_checked):
     slot = f"BACK {place}"
     says = "commands.md, refused: the first entry that is not its local code over the BACKs before it"
     checked = [Fault(slot, f"{place}.wrong", WRONG_N, 6, f"back {place}: {WRONG}", says)] if is_checked else []
-    return opening(slot, f"back {place}", (MAGIC, LEANING), f"back {place}", checked)
+    return opening(slot, f"back {place}", (MAGIC, LEANING), f"back {place}", checked, True)
 
 
 def written(slot="NEW"):

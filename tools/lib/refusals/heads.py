@@ -3,7 +3,8 @@
 import struct
 from collections import namedtuple
 
-from lib.refusals.fixtures import A, A_BLACK, A_WHITE, FORMER, MAGICS
+from lib.refusals.fixtures import A, A_BLACK, A_WHITE, MAGICS
+from lib.tables import CHAINED, FORMER, OLDER
 
 LONGEST = 65_536
 # As long as A.
@@ -103,11 +104,17 @@ def largest(magic):
     yield Head(content, f"truncated {len(content)} due {len(content) + 8 * size}", "step 8")
 
 
-def other_magics(wanted):
-    """The file with each of the magics that are another kind's."""
+# How `atlas` names the tables that it does not read.
+NAMED = {
+    CHAINED: "chained, ask freezer chainquery", FORMER: "former, ask freezer migrate", OLDER: "older, build it again",
+}
+
+
+def other_magics(wanted, is_named):
+    """The file with each of the magics that are another kind's, which `atlas` names."""
     for magic in MAGICS:
         if magic not in wanted:
-            yield Head(made(magic), "magic", "step 3")
+            yield Head(made(magic), NAMED[magic] if is_named else "magic", "step 3")
 
 
 def few_faults(magic):

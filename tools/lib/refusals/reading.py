@@ -5,10 +5,9 @@ from math import comb
 from lib.refusals import texts
 from lib.refusals.commands import both, call
 from lib.refusals.faults import Fault
-from lib.refusals.fixtures import FORMER
 from lib.refusals.heads import head_file
 from lib.refusals.texts import KINGS, LARGEST, LONGEST, MANY, filled
-from lib.tables import CHAINED, LEANING, MAGIC
+from lib.tables import CHAINED, FORMER, LEANING, MAGIC
 
 # The slots of files, the word before a refusal of theirs, and the magic of the file in this place.
 OPENED = {"TABLE": "table", "BACK": "back", "BACK 1": "back 1", "BACK 2": "back 2", "OLD": "table"}
@@ -154,7 +153,7 @@ def migrations():
         cause = f"size 0 due {size}"
         if size > FORMER_LARGEST:
             cause = f"rules 0: set too big {min(size, 2**64 - 1)}"
-        says = "formats.md, The former format: step 6 refuses a size above 16,777,216; step 7 has the former size"
+        says = "former.md: step 6 refuses a size above 16,777,216; step 7 has the former size"
         yield call("freezer", "migrate", each, Fault(
             "OLD", "old.head", head_file(FORMER, text), 5, f"table: {cause}", says
         ), says=says)
@@ -163,7 +162,7 @@ def migrations():
         "group black 1 R:a1-a5\n"
     )
     size = 2 * 64 * 64 * comb(64, 2) ** 2 * 5
-    says = "formats.md, The former format: after all causes of the text"
+    says = "former.md: after all causes of the text"
     yield call("freezer", "migrate", each, Fault(
         "OLD", "old.head", head_file(FORMER, both_large), 5, f"table: rules 0: set too big {size}", says
     ), says=says)

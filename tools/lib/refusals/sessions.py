@@ -68,6 +68,7 @@ def plays():
     """The two programs with one table on the way, and the words of a session from the same position."""
     yield "freezer", ("play", "A.t", IN_A, "white")
     yield "atlas", ("play", "L.t", IN_A, "white", "N.t")
+    yield "atlas", ("play", "A.t", IN_A, "white")
 
 
 def failing_inputs():
@@ -137,6 +138,43 @@ def of_several_tables():
     yield Case("atlas", words, files_of(words), 0, further + AFTER, FAULT, said, failing=True)
 
 
+MOST_ASKED, LONGEST_ASKED = 1_000_000, 128
+ASK = "commands.md, ask: a line for each line of the input, until it ends"
+ASKED, NO_FIELDS = b"white wins within 2, black fails within 2\n", b"fen: fields\n"
+
+
+def questions():
+    """Input of `ask`, what is printed, the status, how much is taken, and what it tests."""
+    right, wide = IN_A.encode(), IN_A.replace(" ", " " * 20).encode()
+    yield b"", b"", 0, 0, ASK
+    for before, after in ((b"", b""), (b" ", b"\r"), (b"\t \r", b" \t"), (b"", b" " * (LONGEST_ASKED - len(right)))):
+        text = before + right + after
+        yield text, ASKED, 0, len(text), ASK
+        yield text + b"\nx\n\n" + text + b"\n", ASKED + NO_FIELDS * 2 + ASKED, 0, 2 * len(text) + 5, ASK
+    yield wide + b"\n", ASKED, 0, len(wide) + 1, ASK
+    for line in (b"x" * 128, b"\xff", b"\0", b" " * 128):
+        yield line + b"\n" + right, NO_FIELDS + ASKED, 0, len(line) + 1 + len(right), ASK
+    told, says = b"limit line length\n", "commands.md, ask: a line has at most 128 bytes"
+    for line in (b"x" * 129, b" " * 129, right + b" " * (129 - len(right)), b"x" * 5_000):
+        yield line + b"\n" + right, told, 13, 129, says
+        yield right + b"\n" + line, ASKED + told, 13, len(right) + 130, says
+    yield b"\n" * (MOST_ASKED - 1), NO_FIELDS * (MOST_ASKED - 1), 0, MOST_ASKED - 1, "commands.md, ask: 1,000,000 lines"
+    many = NO_FIELDS * MOST_ASKED + b"limit lines\n"
+    yield b"\n" * (MOST_ASKED + 1), many, 13, MOST_ASKED, "commands.md, ask: 1,000,000 lines"
+
+
+def of_ask():
+    for words in (("ask", "A.t"), ("ask", "L.t", "N.t")):
+        files = files_of(words)
+        for given, text, status, taken, says in questions():
+            ended = "" if status else "input ended\n"
+            yield Case("atlas", words, files, status, text.decode() + ended, says, given, taken)
+        yield Case("atlas", words, files, 10, "input fault\n", FAULT, None)
+        for given, text in ((b"", b""), (b"x", b""), (b"x\n", NO_FIELDS), (IN_A.encode() + b"\n", ASKED)):
+            yield Case("atlas", words, files, 10, text.decode() + "input fault\n", FAULT, given, failing=True)
+
+
 def cases():
     yield from of_one_table()
     yield from of_several_tables()
+    yield from of_ask()

@@ -4,17 +4,21 @@ from lib.refusals.case import Case
 from lib.refusals.commands import MOST_BACKS, both, call
 from lib.refusals.faults import Fault
 from lib.refusals.fixtures import (
-    A_FILE, CHAINED_FILE, FILES, IN_A, LINE_IN_A, L_FILE, N_BELIEVED, N_FILE, SAID_IN_A, SESSION_IN_A, files_of,
+    A_FILE, BOUNDS, CHAINED_FILE, FILES, IN_A, LINE_IN_A, L_FILE, MATE_IN_ONE, N_BELIEVED, N_FILE, OPEN_IN_A,
+    RANKED_OF_A, SAID_IN_A, SESSION_IN_A, files_of,
 )
 
 FREEZER = ("moves", "sans", "move", "solve", "build", "check", "query", "chain", "chaincheck", "chainquery", "line",
            "play", "report", "migrate", "sample")
-ATLAS = ("build", "check", "query", "line", "play", "why", "verdict", "premises", "report", "each", "size")
+ATLAS = ("build", "check", "query", "line", "play", "why", "verdict", "premises", "report", "each", "ask", "size")
 NO_COMMAND = (
     "", "help", "--help", "-h", "-", "--version", "version", "Moves", "MOVES", "moves ", " moves", "move s", "mov",
     "movess", "checks", "Build", "buildx", "0", "freezer", "atlas", "./freezer", "A", IN_A, "ｍoves", "sample0",
 )
 SAME, WINS = "words: same name\n", "white wins within 2\n"
+# At 5 in A over N, whose wins have no plies.
+EACH_IN_L = "Ka8 white wins within 1, black none\nKc8 back 1 white wins within 1, black none\n"
+ASKED_IN_L = "white wins within 2, black fails within 2\ninput ended\n"
 NO_TEXT = b"\xff"
 NO_TEXTS = (b"\xff", b"a\x80", b"\xc3", b"\xed\xa0\x80", b"white\xfe")
 
@@ -86,6 +90,8 @@ def names_of_atlas():
         (("why", "A.t", "x", "x", "A.t"), 2, SAME), (("why", "L.t", "x", "x", "N.t", "8", "N.t"), 2, SAME),
         (("premises", "A", "A"), 2, SAME), (("premises", "A", "N.t", "N.t"), 2, SAME),
         (("premises", "nowhere", "nowhere"), 2, SAME), (("build", "A", "A", "N.t"), 2, SAME),
+        (("build", "A", "A"), 2, SAME), (("each", "L.t", "x", "L.t"), 2, SAME), (("ask", "A.t", "A.t"), 2, SAME),
+        (("ask", "L.t", "N.t", "8", "N.t"), 2, SAME), (("verdict", "L.t", "x", "N.t", "N.t"), 2, SAME),
         (("build", "A", "N.t", "A"), 2, SAME), (("build", "A", "N.t", "N.t"), 2, SAME),
         (("build", "A", "new", "N.t", "L.t", "8", "L.t"), 2, SAME), (("check", "L.t", "L.t"), 2, SAME),
         (("check", "L.t", "N.t", "8", "N.t"), 2, SAME), (("report", "", ""), 2, SAME),
@@ -96,8 +102,8 @@ def names_of_atlas():
 
 
 def many_backs():
-    """commands.md, refused: at most 16 BACKs, and none for `why`, `verdict` and `premises`."""
-    says = "commands.md, refused: too few words, or more than 16 BACKs"
+    """commands.md, refused: at most 16 BACKs."""
+    says = "commands.md, refused: more than 16 BACKs"
     for count in (1, 2, 15, 16, 17, 18):
         backs = [f"b{n}" for n in range(count)]
         files = {"A": FILES["A"], "L.t": L_FILE, **dict.fromkeys(backs, N_FILE)}
@@ -112,7 +118,9 @@ def many_backs():
             (("why", "L.t", IN_A, "white"), WINS, b"", {}),
             (("verdict", "L.t", IN_A), f"{IN_A}\nwhite wins\n{named}believed {count}\n", b"", {}),
             (("premises", "A"), believed, b"", {}),
-            (("report", "L.t"), "exits 37 KRk\nsqueezes 0 unassigned 37\n", b"", {}),
+            (("report", "L.t"), "exits 37 KRk k7/8/1K6/8/8/8/8/R7 b - - 0 1\nsqueezes 0 unassigned 37\n", b"", {}),
+            (("each", "L.t", OPEN_IN_A), EACH_IN_L, b"", {}),
+            (("ask", "L.t"), ASKED_IN_L, OPEN_IN_A.encode(), {}),
         ):
             status, answer = (0, text) if count <= MOST_BACKS else (2, "words: count\n")
             yield Case("atlas", (*words, *backs), files, status, answer, says, given, made={} if status else made)
@@ -124,7 +132,21 @@ def many_backs():
 
 
 def without_backs():
-    says = "commands.md, refused: `why`, `verdict` and `premises` may have no BACK"
+    """commands.md: a table of `freezer build` stands alone, and no BACK need be named."""
+    says = "commands.md, Commands: `atlas` takes tables that stand alone too"
+    for words, text, given, made in (
+        (("build", "A", "new"), "built 8\n", b"", {"new": A_FILE}), (("check", "A.t"), "exact 8\n", b"", {}),
+        (("query", "A.t", IN_A), BOUNDS, b"", {}), (("query", "L.t", IN_A), BOUNDS, b"", {}),
+        (("line", "A.t", IN_A, "white"), LINE_IN_A, b"", {}),
+        (("play", "A.t", IN_A, "white"), SESSION_IN_A, SAID_IN_A, {}), (("report", "A.t"), RANKED_OF_A, b"", {}),
+        (("each", "A.t", OPEN_IN_A), "Ka8 white wins within 1, black none\nKc8 exit unknown\n", b"", {}),
+        # What stands behind a plain table is not asked.
+        (("each", "A.t", OPEN_IN_A, "N.t"), "Ka8 white wins within 1, black none\nKc8 exit unknown\n", b"", {}),
+        (("ask", "A.t", "N.t"), "white wins within 1, black fails within 1\noutside\ninput ended\n",
+         f"{MATE_IN_ONE}\n2k5/8/1K6/8/8/8/8/7R w - - 0 1\n".encode(), {}),
+        (("check", "A.t", "N.t"), "exact 8 over 2\n", b"", {}),
+    ):
+        yield Case("atlas", words, files_of(words), 0, text, says, given, made=made)
     plain = "believed 0\nwhite true, exits undecided\nblack true, exits undecided\n"
     yield Case("atlas", ("premises", "A"), files_of(["A"]), 0, "rules\n" + plain, says)
     verdict = f"{IN_A}\nwhite wins, mate within 2\nbelieved 0\n"
