@@ -2,7 +2,6 @@
 use Rattle.std.proofs.Common.{◌≡◌, refl, sym, ap, subst, ◌∙◌, ℕ, List, [], Option, Some, None, Result, Ok, Err}
 use Rattle.std.specs.Prelude.{map}
 use Rattle.std.specs.Option.{unwrap_or}
-use Rattle.frz_exits.specs.Books.{value_by}
 use Rattle.frz_game.specs.Values.{AreTrueExits}
 use Rattle.frz_store.specs.Files.{Files}
 use Rattle.frz_table.specs.declared.fault.TableFault.{TableFault}
@@ -14,7 +13,7 @@ use Rattle.frz_check.specs.Kept.{kept_codes}
 use Rattle.frz_check.proofs.Lemmas.{bound_kept}
 use Rattle.frz_backs.specs.Books.{Back}
 use Rattle.frz_backs.specs.Links.{AreTrueLines}
-use Rattle.frz_backs.specs.Values.{atlas_value}
+use Rattle.frz_backs.specs.Values.{atlas_value, own_value}
 use Rattle.frz_backs.proofs.Lemmas.{exits_over_true}
 use Rattle.frz_atlas.specs.Behind.{AreJudged, TableBytes, link_of}
 use Rattle.frz_atlas.specs.Loading.{opened_all}
@@ -56,12 +55,15 @@ module _ (table : List ℕ) (behind : List (List ℕ)) (files : Files) where
 
   -- where the lines of all texts are true, so are the exits over exact tables
   exits_true : (contents : Contents) (tables : List TableBytes) → AreJudged tables
-      → AreTrueExits contents.rules (value_by contents.rules) → AreTrueLines (map link_of tables)
+      → AreTrueExits contents.rules (own_value contents.rules (backs_in tables))
+      → AreTrueLines (map link_of tables)
       → AreTrueExits contents.rules (value_behind contents tables)
   exits_true contents tables judged own lines =
       subst (λ (backs : List Back). AreTrueExits contents.rules (atlas_value contents.rules backs))
       (links_backs tables)
-      (exits_over_true contents.rules (map link_of tables) (judged_exact tables judged) lines own)
+      (exits_over_true contents.rules (map link_of tables) (judged_exact tables judged) lines
+      (subst (λ (backs : List Back). AreTrueExits contents.rules (own_value contents.rules backs))
+      (sym (links_backs tables)) own))
 
   module _ (a : Answer) where
     means_so : (status : Status) (text : List ℕ) → a ≡ says status text files

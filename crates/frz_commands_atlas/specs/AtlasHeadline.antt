@@ -1,7 +1,6 @@
 -- What it means that `check` has ended with status 0.
 use Rattle.std.specs.Prelude.{◌≡◌, ℕ, List, map, All, Some, Ok}
 use Rattle.frz_board.specs.declared.man.Colour.TheVariants.{White, Black}
-use Rattle.frz_exits.specs.Books.{value_by}
 use Rattle.frz_game.specs.Bounds.{IsTableOf}
 use Rattle.frz_game.specs.ExactBounds.{TableIsExactWhereFree}
 use Rattle.frz_game.specs.ExactTables.{AreDecidedOutside}
@@ -18,7 +17,7 @@ use Rattle.frz_backs.specs.Decided.{AreLinesOrTables, HasBothOutcomes}
 use Rattle.frz_backs.specs.ExactOver.{HasOutcomesOver}
 use Rattle.frz_backs.specs.LinkPlies.{MatesOver}
 use Rattle.frz_backs.specs.Links.{AreExact, AreTrueLines, Link, backs_of}
-use Rattle.frz_backs.specs.Values.{atlas_value}
+use Rattle.frz_backs.specs.Values.{atlas_value, own_value}
 use Rattle.frz_atlas.specs.Behind.{AreJudged, TableBytes, link_of}
 use Rattle.frz_atlas.specs.FileOver.{IsFileOver}
 use Rattle.frz_atlas.specs.Held.{all_held}
@@ -55,10 +54,10 @@ pub record AtlasHeadline (table : List ℕ) (behind : List (List ℕ)) (files : 
   pub white_means : TableMeans rules (atlas_value rules (backs_of links)) White white
   pub black_means : TableMeans rules (atlas_value rules (backs_of links)) Black black
   -- the exits of TABLE are true where the exit lines of all texts are true
-  pub true_exits : AreTrueExits rules (value_by rules) → AreTrueLines links
+  pub true_exits : AreTrueExits rules (own_value rules (backs_of links)) → AreTrueLines links
       → AreTrueExits rules (atlas_value rules (backs_of links))
-  -- where the exit lines of all texts are true, and give the plies of the side's wins, a win within
-  -- n forces mate within n plies and those of the longest win behind it, as MatesOver says
+  -- where the exit lines of all texts are true, the side's wins count in all BACKs, and TABLE's lines
+  -- give the plies of its wins, a win within n forces mate within n plies
   pub white_mates : MatesOver rules links White
   pub black_mates : MatesOver rules links Black
   -- where no line of TABLE forbids a side a move, its codes there are exact in chess as

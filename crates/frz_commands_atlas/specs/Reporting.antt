@@ -3,7 +3,6 @@ use Rattle.std.specs.Prelude.{◌≡◌, ℕ, List, [], ◌∷◌, map, slice_in
 use Rattle.frz_board.specs.declared.man.Colour.{Colour}
 use Rattle.frz_board.specs.Boards.{Board}
 use Rattle.frz_sets.specs.declared.exit.Value.{Value}
-use Rattle.frz_exits.specs.Books.{value_by}
 use Rattle.frz_game.specs.Values.{AreTrueExits}
 use Rattle.frz_index.specs.Members.{Member, Num}
 use Rattle.frz_store.specs.Files.{Files, bytes_at}
@@ -13,7 +12,7 @@ use Rattle.frz_table.specs.Opening.{Contents, opened, table_format}
 use Rattle.frz_check.specs.Kept.{kept_codes}
 use Rattle.frz_check.specs.KeptTables.{KeepsBound, KeepsTables}
 use Rattle.frz_backs.specs.Links.{AreTrueLines}
-use Rattle.frz_backs.specs.Values.{atlas_value}
+use Rattle.frz_backs.specs.Values.{atlas_value, own_value}
 use Rattle.frz_atlas.specs.Behind.{AreJudged, TableBytes, backs_in, link_of}
 use Rattle.frz_atlas.specs.Checking.{own_size}
 use Rattle.frz_atlas.specs.Loading.{opened_all}
@@ -78,7 +77,8 @@ pub record TellsReport (table : List ℕ) (behind : List (List ℕ)) (files : Fi
       (side : Colour) (p : Board) → Member contents.rules.groups p →
       KeepsBound contents.rules (value_behind contents tables) side p
       (slice_index (kept_codes contents bytes side) (Num contents.rules.groups p))
-  pub true_exits : AreJudged tables → AreTrueExits contents.rules (value_by contents.rules) →
+  pub true_exits : AreJudged tables →
+      AreTrueExits contents.rules (own_value contents.rules (backs_in tables)) →
       AreTrueLines (map link_of tables) →
       AreTrueExits contents.rules (value_behind contents tables)
 
