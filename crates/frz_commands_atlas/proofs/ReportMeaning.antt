@@ -2,7 +2,6 @@
 use Rattle.std.proofs.Common.{◌≡◌, refl, sym, ap, subst, ◌∙◌, ℕ, Bool, true, false, List, [], Option, Some, None, Result, Ok, Err}
 use Rattle.std.specs.Prelude.{map}
 use Rattle.std.specs.Option.{unwrap_or}
-use Rattle.frz_exits.specs.Books.{value_by}
 use Rattle.frz_game.specs.Values.{AreTrueExits}
 use Rattle.frz_store.specs.Files.{Files}
 use Rattle.frz_table.specs.declared.fault.TableFault.{TableFault}
@@ -12,8 +11,8 @@ use Rattle.frz_table.proofs.Lemmas.{opened_missing}
 use Rattle.frz_check.specs.Kept.{kept_codes}
 use Rattle.frz_check.proofs.Lemmas.{bound_kept}
 use Rattle.frz_backs.specs.Books.{Back}
-use Rattle.frz_backs.specs.Links.{AreTrueLines, value_over}
-use Rattle.frz_backs.specs.Values.{atlas_value}
+use Rattle.frz_backs.specs.Links.{AreTrueLines, own_over, value_over}
+use Rattle.frz_backs.specs.Values.{atlas_value, own_value}
 use Rattle.frz_backs.proofs.Lemmas.{exits_over_true}
 use Rattle.frz_atlas.specs.Behind.{AreJudged, TableBytes, backs_in, leans, link_of}
 use Rattle.frz_atlas.specs.Loading.{opened_all}
@@ -55,17 +54,20 @@ module _ (table : List ℕ) (behind : List (List ℕ)) (files : Files) where
 
   -- where the lines of all texts are true, so are the exits over exact tables
   exits_true : (contents : Contents) (bytes : List ℕ) (tables : List TableBytes) → AreJudged tables
-      → AreTrueExits contents.rules (value_by contents.rules) → AreTrueLines (map link_of tables)
+      → AreTrueExits contents.rules (own_over (leans bytes) contents.rules (backs_in tables))
+      → AreTrueLines (map link_of tables)
       → AreTrueExits contents.rules (value_behind contents bytes tables)
-  exits_true contents bytes tables judged own lines = by_kind (leans bytes)
+  exits_true contents bytes tables judged own lines = by_kind (leans bytes) own
     where
-      by_kind : (b : Bool)
+      by_kind : (b : Bool) → AreTrueExits contents.rules (own_over b contents.rules (backs_in tables))
           → AreTrueExits contents.rules (value_over b contents.rules (backs_in tables))
-      by_kind false = own
-      by_kind true =
+      by_kind false own = own
+      by_kind true own =
           subst (λ (backs : List Back). AreTrueExits contents.rules (atlas_value contents.rules backs))
           (links_backs tables)
-          (exits_over_true contents.rules (map link_of tables) (judged_exact tables judged) lines own)
+          (exits_over_true contents.rules (map link_of tables) (judged_exact tables judged) lines
+          (subst (λ (backs : List Back). AreTrueExits contents.rules (own_value contents.rules backs))
+          (sym (links_backs tables)) own))
 
   module _ (a : Answer) where
     means_so : (status : Status) (text : List ℕ) → a ≡ says status text files

@@ -17,7 +17,7 @@ use Rattle.frz_table.specs.Tables.{IsTableFile}
 use Rattle.frz_backs.specs.Decided.{AreLinesOrTables, HasBothOutcomes}
 use Rattle.frz_backs.specs.ExactOver.{HasOutcomesOver}
 use Rattle.frz_backs.specs.LinkPlies.{MatesOver}
-use Rattle.frz_backs.specs.Links.{AreExact, AreTrueLines, Link, backs_of, value_over}
+use Rattle.frz_backs.specs.Links.{AreExact, AreTrueLines, Link, backs_of, own_over, value_over}
 use Rattle.frz_backs.specs.Values.{atlas_value}
 use Rattle.frz_atlas.specs.Behind.{AreJudged, TableBytes, kind_of, leans, link_of}
 use Rattle.frz_atlas.specs.FileOver.{IsOwnFile}
@@ -26,8 +26,8 @@ use Rattle.frz_atlas.specs.Held.{all_held}
 -- what more is known of a table that leans on exact tables
 pub record HeadlineOver (rules : RuleLines) (links : List Link) (white black : List ℕ)
     : Type 0 where
-  -- where the exit lines of all texts are true, and give the plies of the side's wins, a win within
-  -- n forces mate within n plies and those of the longest win behind it, as MatesOver says
+  -- where the exit lines of all texts are true, the side's wins count in all BACKs, and TABLE's lines
+  -- give the plies of its wins, a win within n forces mate within n plies
   pub white_mates : MatesOver rules links White
   pub black_mates : MatesOver rules links Black
   -- where the outcomes in the BACKs are those of chess, and each way out of TABLE's set is decided
@@ -71,8 +71,8 @@ pub record AtlasHeadline (table : List ℕ) (behind : List (List ℕ)) (files : 
   pub white_means : TableMeans rules (value_over (leans bytes) rules (backs_of links)) White white
   pub black_means : TableMeans rules (value_over (leans bytes) rules (backs_of links)) Black black
   -- the exits of TABLE are true where the exit lines of all texts are true
-  pub true_exits : AreTrueExits rules (value_by rules) → AreTrueLines links
-      → AreTrueExits rules (value_over (leans bytes) rules (backs_of links))
+  pub true_exits : AreTrueExits rules (own_over (leans bytes) rules (backs_of links)) →
+      AreTrueLines links → AreTrueExits rules (value_over (leans bytes) rules (backs_of links))
   -- where its exit lines are true by the men (the men that their conditions leave show it), they
   -- are true
   pub true_by_men : are_true_by_men rules ≡ true → AreTrueExits rules (value_by rules)

@@ -3,7 +3,6 @@ use Rattle.std.specs.Prelude.{◌≡◌, ℕ, List, [], ◌∷◌, map, slice_in
 use Rattle.frz_board.specs.declared.man.Colour.{Colour}
 use Rattle.frz_board.specs.Boards.{Board}
 use Rattle.frz_sets.specs.declared.exit.Value.{Value}
-use Rattle.frz_exits.specs.Books.{value_by}
 use Rattle.frz_game.specs.Values.{AreTrueExits}
 use Rattle.frz_index.specs.Members.{Member, Num}
 use Rattle.frz_store.specs.Files.{Files, bytes_at}
@@ -11,7 +10,7 @@ use Rattle.frz_table.specs.declared.fault.TableFault.{TableFault}
 use Rattle.frz_table.specs.Opening.{Contents, opened, own_format}
 use Rattle.frz_check.specs.Kept.{kept_codes}
 use Rattle.frz_check.specs.KeptTables.{KeepsBound, KeepsTables}
-use Rattle.frz_backs.specs.Links.{AreTrueLines, value_over}
+use Rattle.frz_backs.specs.Links.{AreTrueLines, own_over, value_over}
 use Rattle.frz_atlas.specs.Behind.{AreJudged, TableBytes, backs_in, leans, link_of}
 use Rattle.frz_atlas.specs.Costs.{size_held}
 use Rattle.frz_atlas.specs.Loading.{opened_all}
@@ -76,7 +75,9 @@ pub record TellsReport (table : List ℕ) (behind : List (List ℕ)) (files : Fi
       (side : Colour) (p : Board) → Member contents.rules.groups p →
       KeepsBound contents.rules (value_behind contents bytes tables) side p
       (slice_index (kept_codes contents bytes side) (Num contents.rules.groups p))
-  pub true_exits : AreJudged tables → AreTrueExits contents.rules (value_by contents.rules) →
+  pub true_exits : AreJudged tables →
+      AreTrueExits contents.rules
+      (own_over (leans bytes) contents.rules (backs_in tables)) →
       AreTrueLines (map link_of tables) →
       AreTrueExits contents.rules (value_behind contents bytes tables)
 

@@ -48,7 +48,7 @@ use Rattle.frz_atlas_prelude.proofs.Lemmas.{AnswersAt, Holds, MayEndAt, apart_na
 use Rattle.frz_exit_lines.specs.Numbers.{exit_numbers_of}
 use Rattle.frz_commands_why.specs.Asking.{asking_at}
 use Rattle.frz_commands_why.specs.Costs.{steps_by, why_costs}
-use Rattle.frz_commands_why.specs.Deciders.{decider_of, leaning_on}
+use Rattle.frz_commands_why.specs.Deciders.{decider_of}
 use Rattle.frz_commands_why.specs.Ending.{EndsIn, EndsEarly, EndsLoaded, codes_loaded, stepping_in}
 use Rattle.frz_commands_why.specs.Loading.{LoadsTables, RefusesTables, WithinOwn}
 use Rattle.frz_commands_why.specs.Telling.{EndsWhy, telling_steps, why_text}
@@ -214,12 +214,10 @@ module _ (there : WayThere) (table : List ℕ) (behind : List (List ℕ))
         (decider_behind contents l.bytes l.tables) number end out after) same_codes
         (subst (λ (b : List Back). EndsWhy contents.rules
         (value_over (leans l.bytes) contents.rules b) side (codes_loaded given)
-        (decider_of (exit_numbers_of contents.text) contents.rules
-        (leaning_on (leans l.bytes) b)) number end out after) same_backs
+        (decider_of (leans l.bytes) (exit_numbers_of contents.text) contents.rules b) number end out after) same_backs
         (subst (λ (t : Bool). EndsWhy contents.rules
         (value_over t contents.rules (map loaded_back backs)) side (codes_loaded given)
-        (decider_of (exit_numbers_of contents.text) contents.rules
-        (leaning_on t (map loaded_back backs))) number end out after) leans_as_its_bytes ends))
+        (decider_of t (exit_numbers_of contents.text) contents.rules (map loaded_back backs)) number end out after) leans_as_its_bytes ends))
 
     same_steps : now ≤ before + steps_by (opened_own (Some l.bytes)) l.bytes side p
     same_steps =

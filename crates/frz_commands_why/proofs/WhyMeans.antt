@@ -30,9 +30,7 @@ use Rattle.frz_check.specs.KeptTables.{KeepsBound, KeepsTables}
 use Rattle.frz_check.proofs.Lemmas.{bound_kept}
 use Rattle.frz_backs.specs.Books.{Back}
 use Rattle.frz_backs.specs.Links.{value_over}
-use Rattle.frz_backs.specs.Values.{atlas_value}
-use Rattle.frz_backs.proofs.Lemmas.{lines_alone}
-use Rattle.frz_atlas.specs.Behind.{TableBytes, kind_of, leans}
+use Rattle.frz_atlas.specs.Behind.{TableBytes, backs_in, kind_of, leans}
 use Rattle.frz_atlas.specs.Loading.{opened_all, opened_own}
 use Rattle.frz_answer.specs.declared.status.Status.{Status}
 use Rattle.frz_answer.specs.declared.status.Status.TheVariants as statuses
@@ -50,12 +48,11 @@ use Rattle.frz_reasons.specs.FailingGames.{EndsAt, HasLeft, IsGameFrom, IsRight,
 use Rattle.frz_reasons.specs.FailingWays.{FailsFrom}
 use Rattle.frz_reasons.specs.ReasonTexts.{denials_text, moves_text}
 use Rattle.frz_commands_why.specs.declared.decider.Decider.{Decider}
-use Rattle.frz_commands_why.specs.Deciders.{leaning_on}
 use Rattle.frz_commands_why.specs.Decides.{Decides}
 use Rattle.frz_commands_why.specs.Meaning.{MeansStatus, MeansWhy, Opens, TellsAll, TellsBound, TellsNone, of_back, of_table, wins as wins_told, holds as hold_told, fails as failure_told}
 use Rattle.frz_commands_why.specs.Telling.{ToldAt, ToldFailure, ToldOpponent, fails, has_bound, has_none, holds, met_wrong, neither, on_way, why_text, wins}
 use Rattle.frz_commands_why.specs.Texts.{end_text, status_by, wrong_in}
-use Rattle.frz_commands_why.specs.WhyOf.{IsWhyAnswer, IsWhyAt, IsWhyBehind, IsWhyBy, backs_behind, code_at, decider_behind, value_behind}
+use Rattle.frz_commands_why.specs.WhyOf.{IsWhyAnswer, IsWhyAt, IsWhyBehind, IsWhyBy, code_at, decider_behind, value_behind}
 use Rattle.frz_commands_why.proofs.BestWay.{BestLaws, best_way}
 use Rattle.frz_commands_why.proofs.Deciders.{decider_decides}
 use Rattle.frz_commands_why.proofs.DenialsTell.{denials_are, none_wrong}
@@ -101,12 +98,6 @@ bound_some (Fails m) e = omega arith
 
 empty_end_dropped : (line text : List ℕ) → line ++ (text ++ []) ≡ line ++ text
 empty_end_dropped line text = ap (λ (l : List ℕ). line ++ l) (append-nil text)
-
--- the values behind exit lines, whether tables stand behind them or not
-as_atlas : (leaning : Bool) (rules : RuleLines) (backs : List Back) (q : Board) →
-    atlas_value rules (leaning_on leaning backs) q ≡ value_over leaning rules backs q
-as_atlas true rules backs q = refl
-as_atlas false rules backs q = lines_alone rules q
 
 wrong_is_not_right : (w : WrongEntry) → IsRight (Wrong w) → ⊥
 wrong_is_not_right w h = h
@@ -192,18 +183,17 @@ module _ (laws : WayLaws) (table : List ℕ) (behind : List (List ℕ)) (side : 
 
     -- what decided a value outside
     decided_so : (q : Board) (v : Value) → v ≡ value q
-        → Decides open_all.contents.text rules (backs_behind open_all.bytes open_all.tables) q v
+        → Decides (leans open_all.bytes) open_all.contents.text rules (backs_in open_all.tables) q v
         (decider q)
     decided_so q v is =
-        subst (λ (w : Value). Decides open_all.contents.text rules
-        (backs_behind open_all.bytes open_all.tables) q w (decider q))
-        (as_atlas (leans open_all.bytes) rules _ q ∙ sym is)
-        (decider_decides open_all.contents.text rules accepted
-        (backs_behind open_all.bytes open_all.tables) q)
+        subst (λ (w : Value). Decides (leans open_all.bytes) open_all.contents.text rules
+        (backs_in open_all.tables) q w (decider q)) (sym is)
+        (decider_decides open_all.contents.text rules accepted (leans open_all.bytes)
+        (backs_in open_all.tables) q)
 
     decided_at : (who : Colour) (reason : Reason) (q : Board) → EndsAt rules value who q reason
         → (n : ℕ) (m : Step) (v : Value) → reason ≡ Left n m v
-        → Decides open_all.contents.text rules (backs_behind open_all.bytes open_all.tables) q v
+        → Decides (leans open_all.bytes) open_all.contents.text rules (backs_in open_all.tables) q v
         (decider q)
     decided_at who reason q ends n m v is =
         let left : HasLeft rules value n m v q =

@@ -21,7 +21,7 @@ use Rattle.frz_prelude.specs.Refusals.{refusal_line, status_of}
 use Rattle.frz_prelude.specs.declared.refused.Refused.TheVariants as refusals
 use Rattle.frz_exit_lines.specs.Numbers.{exit_numbers_of}
 use Rattle.frz_commands_why.specs.declared.decider.Decider.{Decider}
-use Rattle.frz_commands_why.specs.Deciders.{decider_of, leaning_on}
+use Rattle.frz_commands_why.specs.Deciders.{decider_of}
 use Rattle.frz_commands_why.specs.Telling.{EndsWhy, telling_steps}
 
 -- the values of positions outside the set of a loaded table, with these loaded tables behind it
@@ -32,8 +32,8 @@ value_loaded own backs =
 -- what decides them
 abbrev pub decider_loaded : BackTable → List BackTable → Board → Decider
 decider_loaded own backs =
-    decider_of (exit_numbers_of own.table.text) own.table.rules
-    (leaning_on (leans_as own.table.kind) (map loaded_back backs))
+    decider_of (leans_as own.table.kind) (exit_numbers_of own.table.text) own.table.rules
+    (map loaded_back backs)
 
 abbrev pub codes_loaded : BackTable → Colour → List ℕ
 codes_loaded own side = of_side side own.white.items own.black.items

@@ -16,7 +16,7 @@ use Rattle.frz_table.specs.declared.fault.TableFault.{TableFault}
 use Rattle.frz_table.specs.Opening.{Contents}
 use Rattle.frz_check.specs.Kept.{kept_codes}
 use Rattle.frz_check.specs.KeptTables.{KeepsBound, KeepsTables}
-use Rattle.frz_atlas.specs.Behind.{TableBytes, kind_of}
+use Rattle.frz_atlas.specs.Behind.{TableBytes, backs_in, kind_of, leans}
 use Rattle.frz_atlas.specs.Loading.{opened_all, opened_own}
 use Rattle.frz_atlas.specs.declared.fault.BackFault.TheVariants.{Refused}
 use Rattle.frz_answer.specs.declared.status.Status.{Status}
@@ -39,7 +39,7 @@ use Rattle.frz_commands_why.specs.Denying.{AreDenials}
 use Rattle.frz_commands_why.specs.Loading.{OpensOwn}
 use Rattle.frz_commands_why.specs.Telling.{why_text}
 use Rattle.frz_commands_why.specs.Texts.{end_text}
-use Rattle.frz_commands_why.specs.WhyOf.{IsToldOf, backs_behind, code_at, decider_behind, value_behind}
+use Rattle.frz_commands_why.specs.WhyOf.{IsToldOf, code_at, decider_behind, value_behind}
 
 -- TABLE and the BACKs open, each as its own kind
 pub record Opens (table : List ℕ) (behind : List (List ℕ)) (files : Files) : Type 0 where
@@ -75,7 +75,7 @@ pub record TellsNone (contents : Contents) (bytes : List ℕ) (tables : List Tab
       (position_behind p arms) reason
   pub spoiled : IsSpoiled side reason
   pub decided : (number : ℕ) (m : Step) (value : Value) → reason ≡ Left number m value →
-      Decides contents.text contents.rules (backs_behind bytes tables) (position_behind p arms)
+      Decides (leans bytes) contents.text contents.rules (backs_in tables) (position_behind p arms)
       value (decider_behind contents bytes tables (position_behind p arms))
   pub told : text ≡ kept_line side (code_at contents bytes side p)
       ++ (moves_text arms

@@ -10,7 +10,6 @@ use Rattle.frz_store.specs.Files.{Files, bytes_at}
 use Rattle.frz_table.specs.declared.fault.TableFault.{TableFault}
 use Rattle.frz_table.specs.Opening.{Contents}
 use Rattle.frz_check.specs.Kept.{kept_codes}
-use Rattle.frz_backs.specs.Books.{Back}
 use Rattle.frz_backs.specs.Links.{value_over}
 use Rattle.frz_atlas.specs.Behind.{TableBytes, backs_in, leans}
 use Rattle.frz_atlas.specs.Loading.{opened_all, opened_own}
@@ -22,13 +21,9 @@ use Rattle.frz_prelude.specs.declared.refused.Refused.TheVariants as refusals
 use Rattle.frz_atlas_prelude.specs.BackLines.{back_line}
 use Rattle.frz_exit_lines.specs.Numbers.{exit_numbers_of}
 use Rattle.frz_commands_why.specs.declared.decider.Decider.{Decider}
-use Rattle.frz_commands_why.specs.Deciders.{decider_of, leaning_on}
+use Rattle.frz_commands_why.specs.Deciders.{decider_of}
 use Rattle.frz_commands_why.specs.Telling.{ToldAt, why_text}
 use Rattle.frz_commands_why.specs.Texts.{status_by}
-
--- the tables behind the exit lines of TABLE, where it leans on others
-abbrev pub backs_behind : (bytes : List ℕ) → List TableBytes → List Back
-backs_behind bytes tables = leaning_on (leans bytes) (backs_in tables)
 
 -- the values of positions outside TABLE's set: by its exit lines and, where it leans on others, by
 -- the first of the tables behind whose set holds the position, where the lines say nothing
@@ -39,7 +34,7 @@ value_behind contents bytes tables =
 -- what decides such a value
 abbrev pub decider_behind : Contents → (bytes : List ℕ) → List TableBytes → Board → Decider
 decider_behind contents bytes tables =
-    decider_of (exit_numbers_of contents.text) contents.rules (backs_behind bytes tables)
+    decider_of (leans bytes) (exit_numbers_of contents.text) contents.rules (backs_in tables)
 
 -- the code of the side at a position of the set, by the bytes of TABLE
 abbrev pub code_at : Contents → (bytes : List ℕ) → Colour → Board → ℕ

@@ -5,11 +5,12 @@ ghost use Rattle.frz_fide.specs.Valid.{IsValid};
 ghost use Rattle.frz_index.specs.Membership.{is_member};
 ghost use Rattle.frz_sets.specs.Sound.{IsSound};
 ghost use Rattle.frz_backs.specs.FileOn.{loaded_back};
+ghost use Rattle.frz_backs.specs.Lines.{line_over};
 ghost use Rattle.frz_commands_why.specs.Deciders as words;
 
-use frz_backs::BackTable;
+use frz_backs::{BackTable, line_over};
 use frz_bits::Bitboards;
-use frz_exits::{ExitBook, RuleBook, fitting_line, is_unknown};
+use frz_exits::{ExitBook, RuleBook, is_unknown};
 use frz_index::Set;
 use frz_sets::Rules;
 
@@ -28,6 +29,7 @@ pub enum Decider {
 /// file, and the tables behind them.
 #[derive(Clone, Copy)]
 pub struct Deciding<'a> {
+    pub leans: bool,
     pub rules: &'a Rules,
     pub numbers: &'a [u32],
     pub backs: &'a [BackTable],
@@ -66,33 +68,36 @@ impl Deciding<'_> {
         requires valid { IsValid q.now }
         requires sound { IsSound self.now.rules.now }
         ensures place { result
-            ≡ words.asked_back self.now.rules.now (map loaded_back self.now.backs.now) q.now }
+            ≡ words.asked_back self.now.leans self.now.rules.now
+            (map loaded_back self.now.backs.now) q.now }
         ensures below { IfSome result (λ place. place < length self.now.backs.now) }
     {
-        if is_unknown(RuleBook::new(self.rules).value_on(q)) {
+        if self.leans && is_unknown(RuleBook::new(self.rules).value_on(q)) {
             holding_table(self.backs, q)
         } else {
             None
         }
     }
 
-    /// The number in its file of the exit line that fits.
+    /// The number in its file of the exit line that gives the value.
     fn fitting_number(&self, q: &Bitboards) -> Option<u32>
-        requires { IsValid q.now }
-        ensures { result ≡ words.number_at self.now.numbers.now self.now.rules.now.exits q.now }
+        requires valid { IsValid q.now }
+        requires sound { IsSound self.now.rules.now }
+        ensures { result ≡ words.number_at self.now.numbers.now
+            (line_over self.now.leans self.now.rules.now (map loaded_back self.now.backs.now)
+            q.now) }
     {
-        let rules = self.rules;
-        let place = fitting_line(&rules.exits, q)?;
+        let place = line_over(self.leans, self.rules, self.backs, q)?;
         self.numbers.get(place).copied()
     }
 
     /// What decided the value of the position: the exit line that fits first or, where the lines
-    /// say nothing, the first table whose set holds the position.
+    /// say nothing, the first table whose set holds the position; or a line behind all tables.
     #[tactic(auto, unfolding(crate::specs::Deciders::decider_of))]
     pub fn decider(&self, q: &Bitboards) -> Decider
         requires valid { IsValid q.now }
         requires sound { IsSound self.now.rules.now }
-        ensures { result ≡ words.decider_of self.now.numbers.now self.now.rules.now
+        ensures { result ≡ words.decider_of self.now.leans self.now.numbers.now self.now.rules.now
             (map loaded_back self.now.backs.now) q.now }
     {
         match (self.asked_table(q), self.fitting_number(q)) {

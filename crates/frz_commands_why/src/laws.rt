@@ -1,11 +1,11 @@
 //! The laws of `why`. Each function does nothing: its clause is the law.
-ghost use Rattle.std.specs.Prelude.{◌≡◌, ℕ, List, Ok};
+ghost use Rattle.std.specs.Prelude.{◌≡◌, ℕ, Bool, List, Ok};
 ghost use Rattle.frz_board.specs.Boards.{Board};
 ghost use Rattle.frz_sets.specs.Views.{RuleLines};
 ghost use Rattle.frz_answer.specs.Lawful.{IsLawful};
 ghost use Rattle.frz_backs.specs.Books.{Back};
 ghost use Rattle.frz_rules.specs.Text.{rules_of};
-ghost use Rattle.frz_backs.specs.Values.{atlas_value};
+ghost use Rattle.frz_backs.specs.Links.{value_over};
 ghost use Rattle.frz_exit_lines.specs.Numbers.{exit_numbers_of};
 ghost use Rattle.frz_commands_why.specs.Asking.{why_words};
 ghost use Rattle.frz_commands_why.specs.Deciders.{decider_of};
@@ -20,9 +20,9 @@ use frz_reasons::laws::{
 /// tables behind its exit lines.
 pub fn deciders_decide()
     ensures { (text : List ℕ) (rules : RuleLines) → rules_of text ≡ Ok rules →
-        (backs : List Back) (q : Board) →
-        Decides text rules backs q (atlas_value rules backs q)
-        (decider_of (exit_numbers_of text) rules backs q) }
+        (leans : Bool) (backs : List Back) (q : Board) →
+        Decides leans text rules backs q (value_over leans rules backs q)
+        (decider_of leans (exit_numbers_of text) rules backs q) }
 {}
 
 /// For all words behind `why` there is exactly one answer over any files and any input. Over files

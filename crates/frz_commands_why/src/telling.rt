@@ -48,7 +48,7 @@ fn write_left_from<O: Sink>(
     requires sound { IsSound deciding.now.rules.now }
     requires valid { IsValid p.now }
     requires legal { is_legal p.now mv ≡ true }
-    ensures { WroteText (words.exit_text (decider_of deciding.now.numbers.now
+    ensures { WroteText (words.exit_text (decider_of deciding.now.leans deciding.now.numbers.now
         deciding.now.rules.now (map loaded_back deciding.now.backs.now)) value mv (Some p.now))
         result (sink_of O.Sink out.old) (sink_of O.Sink out.new) }
 {
@@ -69,7 +69,7 @@ fn write_left<O: Sink>(
 ) -> Result<(), Failed>
     requires sound { IsSound deciding.now.rules.now }
     requires legal { IfSome (position_at set.now number) (λ p. is_legal p mv ≡ true) }
-    ensures { WroteText (words.exit_text (decider_of deciding.now.numbers.now
+    ensures { WroteText (words.exit_text (decider_of deciding.now.leans deciding.now.numbers.now
         deciding.now.rules.now (map loaded_back deciding.now.backs.now)) value mv
         (position_at set.now number)) result
         (sink_of O.Sink out.old) (sink_of O.Sink out.new) }
@@ -89,7 +89,7 @@ fn write_end<O: Sink>(
 ) -> Result<Option<Wrong>, Failed>
     requires sound { IsSound deciding.now.rules.now }
     requires legal { LeavesLegally set.now reason }
-    ensures wrote { WroteText (words.end_text set.now (decider_of deciding.now.numbers.now
+    ensures wrote { WroteText (words.end_text set.now (decider_of deciding.now.leans deciding.now.numbers.now
         deciding.now.rules.now (map loaded_back deciding.now.backs.now)) reason) result
         (sink_of O.Sink out.old) (sink_of O.Sink out.new) }
     ensures answers { IfOk result (λ wrong. wrong ≡ words.wrong_in reason) }
@@ -148,7 +148,7 @@ fn tell_failure<B: ExitBook, E: Entries, O: Sink, L: Ledger>(
     requires few { size_of game.now.rules.now.groups ≤ 2 ^ 27 }
     requires failing { fails_by (slice_index (E.codes entries.now side) number) ≡ true }
     ensures told { TellsSo (ToldFailure game.now.rules.now (B.value_at game.now.book.now) side
-        (E.codes entries.now side) (decider_of deciding.now.numbers.now
+        (E.codes entries.now side) (decider_of deciding.now.leans deciding.now.numbers.now
         deciding.now.rules.now (map loaded_back deciding.now.backs.now)) number) result
         (sink_of O.Sink out.old) (sink_of O.Sink out.new) }
     ensures steps { steps.new ≤ steps.old + slice_index (E.codes entries.now side) number / 2 }
@@ -176,7 +176,7 @@ fn tell_opponent<B: ExitBook, E: Entries, O: Sink, L: Ledger>(
     requires many { length (E.codes entries.now opponent) ≡ size_of game.now.rules.now.groups }
     requires few { size_of game.now.rules.now.groups ≤ 2 ^ 27 }
     ensures told { TellsSo (ToldOpponent game.now.rules.now (B.value_at game.now.book.now) opponent
-        (E.codes entries.now opponent) (decider_of deciding.now.numbers.now
+        (E.codes entries.now opponent) (decider_of deciding.now.leans deciding.now.numbers.now
         deciding.now.rules.now (map loaded_back deciding.now.backs.now)) number None) result
         (sink_of O.Sink out.old) (sink_of O.Sink out.new) }
     ensures steps { steps.new ≤ steps.old + slice_index (E.codes entries.now opponent) number / 2 }
@@ -211,7 +211,7 @@ fn tell_hold<B: ExitBook, E: Entries, O: Sink, L: Ledger>(
     requires few { size_of game.now.rules.now.groups ≤ 2 ^ 27 }
     requires holds { slice_index (E.codes entries.now side) number ≡ 1 }
     ensures told { TellsBehind game.now.rules.now (B.value_at game.now.book.now) side
-        (E.codes entries.now) (decider_of deciding.now.numbers.now
+        (E.codes entries.now) (decider_of deciding.now.leans deciding.now.numbers.now
         deciding.now.rules.now (map loaded_back deciding.now.backs.now)) number result
         (sink_of O.Sink out.old) (sink_of O.Sink out.new) }
     ensures steps { steps.new ≤ steps.old + telling_steps
@@ -246,7 +246,7 @@ fn tell_behind<B: ExitBook, E: Entries, O: Sink, L: Ledger>(
         ≡ size_of game.now.rules.now.groups }
     requires few { size_of game.now.rules.now.groups ≤ 2 ^ 27 }
     ensures told { TellsBehind game.now.rules.now (B.value_at game.now.book.now) side
-        (E.codes entries.now) (decider_of deciding.now.numbers.now
+        (E.codes entries.now) (decider_of deciding.now.leans deciding.now.numbers.now
         deciding.now.rules.now (map loaded_back deciding.now.backs.now)) number result
         (sink_of O.Sink out.old) (sink_of O.Sink out.new) }
     ensures steps { steps.new ≤ steps.old + telling_steps
@@ -287,7 +287,7 @@ fn tell_all<B: ExitBook, E: Entries, O: Sink, L: Ledger>(
         ≡ size_of game.now.rules.now.groups }
     requires few { size_of game.now.rules.now.groups ≤ 2 ^ 27 }
     ensures told { TellsWhy game.now.rules.now (B.value_at game.now.book.now) side
-        (E.codes entries.now) (decider_of deciding.now.numbers.now
+        (E.codes entries.now) (decider_of deciding.now.leans deciding.now.numbers.now
         deciding.now.rules.now (map loaded_back deciding.now.backs.now)) number result
         (sink_of O.Sink out.old) (sink_of O.Sink out.new) }
     ensures steps { steps.new ≤ steps.old + telling_steps
@@ -324,7 +324,7 @@ pub fn tell_why<B: ExitBook, E: Entries, O: Sink, L: Ledger>(
         ≡ size_of game.now.rules.now.groups }
     requires few { size_of game.now.rules.now.groups ≤ 2 ^ 27 }
     ensures told { EndsWhy game.now.rules.now (B.value_at game.now.book.now) side
-        (E.codes entries.now) (decider_of deciding.now.numbers.now
+        (E.codes entries.now) (decider_of deciding.now.leans deciding.now.numbers.now
         deciding.now.rules.now (map loaded_back deciding.now.backs.now)) number result
         (sink_of O.Sink out.old) (sink_of O.Sink out.new) }
     ensures steps { steps.new ≤ steps.old + telling_steps

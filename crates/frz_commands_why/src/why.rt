@@ -57,7 +57,7 @@ fn tell_by<B: ExitBook, O: Sink, L: Ledger>(
     requires sound { IsSound deciding.now.rules.now }
     requires inside { IsSome (position_at own.now.table.rules.groups number) }
     ensures told { EndsWhy own.now.table.rules (B.value_at book.now) side
-        (codes_loaded own.now) (decider_of deciding.now.numbers.now deciding.now.rules.now
+        (codes_loaded own.now) (decider_of deciding.now.leans deciding.now.numbers.now deciding.now.rules.now
         (map loaded_back deciding.now.backs.now)) number result
         (sink_of O.Sink out.old) (sink_of O.Sink out.new) }
     ensures steps { steps.new ≤ steps.old + telling_steps
@@ -103,6 +103,7 @@ fn tell_in<O: Sink, L: Ledger>(
         FileKind::Atlas => {
             let book = AtlasBook::new(rules, backs);
             let deciding = Deciding {
+                leans: true,
                 rules,
                 numbers,
                 backs,
@@ -112,9 +113,10 @@ fn tell_in<O: Sink, L: Ledger>(
         _ => {
             let book = RuleBook::new(rules);
             let deciding = Deciding {
+                leans: false,
                 rules,
                 numbers,
-                backs: &[],
+                backs,
             };
             tell_by(own, &book, &deciding, side, number, out, steps)
         }

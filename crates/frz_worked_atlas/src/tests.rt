@@ -1,5 +1,6 @@
 //! The program over objects in memory.
 mod corner;
+mod counted;
 mod rook;
 mod words;
 

@@ -22,8 +22,12 @@ group black 1 K:a8,b8
 group black 1 N:h1
 ";
 
-/// White wins if it is to move, by the capture alone: every other move leads to what no table tells.
-const KNIGHT_CODES: &[u32] = &[4, 4, 5, 5, 5, 5, 7, 7];
+/// White wins from the corner, by the capture alone: one ply and those of the rook's win behind it.
+/// Every other move leads to what no table tells.
+const KNIGHT_CODES: &[u32] = &[8, 5, 5, 5, 5, 5, 7, 7];
+
+/// The same over the rook's ending with a code that is wrong, by which the win takes a ply more.
+const LATE_CODES: &[u32] = &[10, 5, 5, 5, 5, 5, 7, 7];
 
 /// White is to move, and the black king in the corner.
 const CORNER: &str = "k7/8/1K6/8/8/8/8/6Rn w - - 0 1";
@@ -34,10 +38,12 @@ const WRONG_CODES: &[u32] = &[4, 6, 0, 0, 8, 5, 2, 2, 5, 5, 0, 0, 7, 7, 3, 3];
 /// A store whose calls fail so, with the knight's table and those of the rook.
 fn filled(alloc: Global, fails: &[Failing]) -> Result<MemStore, Fail> {
     let knight = table_file(alloc, b"FREEZERA", KNIGHT.as_bytes(), 4, KNIGHT_CODES)?;
+    let late = table_file(alloc, b"FREEZERA", KNIGHT.as_bytes(), 4, LATE_CODES)?;
     let rook = plain_file(alloc, rook::TEXT.as_bytes(), &rook::CODES)?;
     let wrong = plain_file(alloc, rook::TEXT.as_bytes(), WRONG_CODES)?;
     let files = [
         ("knight", knight.as_slice()),
+        ("late", &late),
         ("rook", &rook),
         ("wrong", &wrong),
         ("empty", b""),
@@ -90,13 +96,13 @@ const ROWS: &[Row] = &[
     Row(
         &["knight", CORNER, "white", "rook"],
         End::Done(Status::Success),
-        b"white wins within 1\ng1h1\nexit white wins\n\
+        b"white wins within 3\ng1h1\nexit white wins 2\n\
             back 1\nwhite wins within 2\na8b8\nh1h8\nmate\n",
     ),
     Row(
-        &["knight", CORNER, "white", "wrong"],
+        &["late", CORNER, "white", "wrong"],
         End::Done(Status::Wrong),
-        b"white wins within 1\ng1h1\nexit white wins\nback 1\nwhite wins within 3\na8b8\n\
+        b"white wins within 4\ng1h1\nexit white wins 3\nback 1\nwhite wins within 3\na8b8\n\
             back 1: wrong white 1 kept 6 given 4\n",
     ),
     Row(
@@ -189,7 +195,7 @@ const REPLIES: &[Reply] = &[
         b"a8a7\na8b8\nb8a8\n",
         &[],
         End::Done(Status::Success),
-        b"white wins within 1\nmove g1h1\nexit white wins\nback 1\nwhite wins within 2\n\
+        b"white wins within 3\nmove g1h1\nexit white wins 2\nback 1\nwhite wins within 2\n\
             illegal\nreply a8b8\nmove h1h8\nmate\n",
         b"b8a8\n",
     ),
@@ -197,7 +203,7 @@ const REPLIES: &[Reply] = &[
         b"",
         &[],
         End::Done(Status::Success),
-        b"white wins within 1\nmove g1h1\nexit white wins\nback 1\nwhite wins within 2\n\
+        b"white wins within 3\nmove g1h1\nexit white wins 2\nback 1\nwhite wins within 2\n\
             input ended\n",
         b"",
     ),
@@ -205,7 +211,7 @@ const REPLIES: &[Reply] = &[
         b"0123456789012345678901234567890123456789012345678901234567890123456789",
         &[],
         End::Done(Status::Limit),
-        b"white wins within 1\nmove g1h1\nexit white wins\nback 1\nwhite wins within 2\n\
+        b"white wins within 3\nmove g1h1\nexit white wins 2\nback 1\nwhite wins within 2\n\
             limit line length\n",
         b"56789",
     ),
@@ -217,7 +223,7 @@ const REPLIES: &[Reply] = &[
             keep: 0,
         }],
         End::Stopped(Fault::Input),
-        b"white wins within 1\nmove g1h1\nexit white wins\nback 1\nwhite wins within 2\n",
+        b"white wins within 3\nmove g1h1\nexit white wins 2\nback 1\nwhite wins within 2\n",
         b"8b8\n",
     ),
 ];

@@ -20,7 +20,7 @@ returns-in_err-write_kept_line-clause-told g c =
     let side = c.args.side in
     let kept = g.E.Entries.codes c.args.entries.now in
     let deciding = c.args.deciding.now in
-    let decider = decider_of deciding.numbers.now deciding.rules.now
+    let decider = decider_of deciding.leans deciding.numbers.now deciding.rules.now
     (map loaded_back deciding.backs.now) in
     let old = sink_of g.O.Sink c.args.out.now in
     let new = sink_of g.O.Sink c.write_kept_line.new.out in
@@ -41,7 +41,7 @@ returns-in_err-wrong-clause-told g c =
     let side = c.args.side in
     let kept = g.E.Entries.codes c.args.entries.now in
     let deciding = c.args.deciding.now in
-    let decider = decider_of deciding.numbers.now deciding.rules.now
+    let decider = decider_of deciding.leans deciding.numbers.now deciding.rules.now
     (map loaded_back deciding.backs.now) in
     let old = sink_of g.O.Sink c.args.out.now in
     let first = sink_of g.O.Sink c.write_kept_line.new.out in
@@ -62,7 +62,7 @@ returns-in_err-write_wrong_entry-clause-told g c =
     let side = c.args.side in
     let kept = g.E.Entries.codes c.args.entries.now in
     let deciding = c.args.deciding.now in
-    let decider = decider_of deciding.numbers.now deciding.rules.now
+    let decider = decider_of deciding.leans deciding.numbers.now deciding.rules.now
     (map loaded_back deciding.backs.now) in
     let old = sink_of g.O.Sink c.args.out.now in
     let first = sink_of g.O.Sink c.write_kept_line.new.out in

@@ -15,7 +15,7 @@ returns-then-is_win-clause-told g c =
     let win : is_win (slice_index (kept c.args.side) c.args.number) ≡ true =
     ap is_win (sym c.entry-code.ensures) ∙ sym c.is_win.ensures ∙ c.if-is_win.true in
     win_told game.rules.now (g.B.ExitBook.value_at game.book.now) c.args.side kept
-    (decider_of deciding.numbers.now deciding.rules.now (map loaded_back deciding.backs.now))
+    (decider_of deciding.leans deciding.numbers.now deciding.rules.now (map loaded_back deciding.backs.now))
     c.args.number win (sink_of g.O.Sink c.args.out.now)
 
 pub returns-then-code-eq0-clause-told : goal.returns-then-code-eq0-clause-told
@@ -24,7 +24,7 @@ returns-then-code-eq0-clause-told g c =
     let kept = g.E.Entries.codes c.args.entries.now in
     let deciding = c.args.deciding.now in
     broken_told game.rules.now (g.B.ExitBook.value_at game.book.now) c.args.side kept
-    (decider_of deciding.numbers.now deciding.rules.now (map loaded_back deciding.backs.now))
+    (decider_of deciding.leans deciding.numbers.now deciding.rules.now (map loaded_back deciding.backs.now))
     c.args.number (sym c.entry-code.ensures ∙ c.if-code-eq0.true) c.wrong_entry.result
     c.wrong_entry.ensures.wrong (sink_of g.O.Sink c.args.out.now)
 
@@ -37,7 +37,7 @@ returns-clause-told g c =
     let loses : is_win code ≡ false =
     ap is_win (sym c.entry-code.ensures) ∙ sym c.is_win.ensures ∙ c.if-is_win.false in
     behind_failure game.rules.now (g.B.ExitBook.value_at game.book.now) c.args.side kept
-    (decider_of deciding.numbers.now deciding.rules.now (map loaded_back deciding.backs.now))
+    (decider_of deciding.leans deciding.numbers.now deciding.rules.now (map loaded_back deciding.backs.now))
     c.args.number
     (left_failing code loses (λ h. c.if-code-eq1.false (c.entry-code.ensures ∙ h))
     (λ h. c.if-code-eq0.false (c.entry-code.ensures ∙ h))) c.tell_failure.result

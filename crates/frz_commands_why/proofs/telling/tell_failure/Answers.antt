@@ -26,7 +26,7 @@ returns-in_err-reason-clause-told g c =
     let value = g.B.ExitBook.value_at game.book.now in
     let codes = g.E.Entries.codes c.args.entries.now c.args.side in
     let deciding = c.args.deciding.now in
-    let decider = decider_of deciding.numbers.now deciding.rules.now
+    let decider = decider_of deciding.leans deciding.numbers.now deciding.rules.now
     (map loaded_back deciding.backs.now) in
     let old = sink_of g.O.Sink c.args.out.now in
     let new = sink_of g.O.Sink c.write_failing_way.new.out in
@@ -53,7 +53,7 @@ returns-clause-told g c =
     let value = g.B.ExitBook.value_at game.book.now in
     let codes = g.E.Entries.codes c.args.entries.now c.args.side in
     let deciding = c.args.deciding.now in
-    let decider = decider_of deciding.numbers.now deciding.rules.now
+    let decider = decider_of deciding.leans deciding.numbers.now deciding.rules.now
     (map loaded_back deciding.backs.now) in
     let old = sink_of g.O.Sink c.args.out.now in
     let mid = sink_of g.O.Sink c.write_failing_way.new.out in

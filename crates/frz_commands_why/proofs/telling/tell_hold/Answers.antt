@@ -29,7 +29,7 @@ returns-in_err-wrong-clause-told g c =
     let side = c.args.side in
     let kept = g.E.Entries.codes c.args.entries.now in
     let deciding = c.args.deciding.now in
-    let decider = decider_of deciding.numbers.now deciding.rules.now
+    let decider = decider_of deciding.leans deciding.numbers.now deciding.rules.now
     (map loaded_back deciding.backs.now) in
     let old = sink_of g.O.Sink c.args.out.now in
     let new = sink_of g.O.Sink c.write_denials.new.out in
@@ -48,7 +48,7 @@ returns-in-Some-clause-told g c =
     let side = c.args.side in
     let kept = g.E.Entries.codes c.args.entries.now in
     let deciding = c.args.deciding.now in
-    let decider = decider_of deciding.numbers.now deciding.rules.now
+    let decider = decider_of deciding.leans deciding.numbers.now deciding.rules.now
     (map loaded_back deciding.backs.now) in
     let old = sink_of g.O.Sink c.args.out.now in
     let new = sink_of g.O.Sink c.write_denials.new.out in
@@ -64,7 +64,7 @@ returns-in-None-clause-told g c =
     let side = c.args.side in
     let kept = g.E.Entries.codes c.args.entries.now in
     let deciding = c.args.deciding.now in
-    let decider = decider_of deciding.numbers.now deciding.rules.now
+    let decider = decider_of deciding.leans deciding.numbers.now deciding.rules.now
     (map loaded_back deciding.backs.now) in
     let old = sink_of g.O.Sink c.args.out.now in
     let mid = sink_of g.O.Sink c.write_denials.new.out in

@@ -20,7 +20,7 @@ returns-then-not-is_failure-clause-told g c =
     let value = g.B.ExitBook.value_at game.book.now in
     let codes = g.E.Entries.codes c.args.entries.now c.args.opponent in
     let deciding = c.args.deciding.now in
-    let decider = decider_of deciding.numbers.now deciding.rules.now
+    let decider = decider_of deciding.leans deciding.numbers.now deciding.rules.now
     (map loaded_back deciding.backs.now) in
     let stays : is_failure (slice_index codes c.args.number) ≡ false =
     ap is_failure (sym c.entry-code.ensures) ∙ sym c.is_failure.ensures
@@ -36,7 +36,7 @@ returns-in_err-write_kept_line-clause-told g c =
     let who = c.args.opponent in
     let codes = g.E.Entries.codes c.args.entries.now who in
     let deciding = c.args.deciding.now in
-    let decider = decider_of deciding.numbers.now deciding.rules.now
+    let decider = decider_of deciding.leans deciding.numbers.now deciding.rules.now
     (map loaded_back deciding.backs.now) in
     let old = sink_of g.O.Sink c.args.out.now in
     let new = sink_of g.O.Sink c.write_kept_line.new.out in
@@ -60,7 +60,7 @@ returns-clause-told g c =
     let who = c.args.opponent in
     let codes = g.E.Entries.codes c.args.entries.now who in
     let deciding = c.args.deciding.now in
-    let decider = decider_of deciding.numbers.now deciding.rules.now
+    let decider = decider_of deciding.leans deciding.numbers.now deciding.rules.now
     (map loaded_back deciding.backs.now) in
     let old = sink_of g.O.Sink c.args.out.now in
     let mid = sink_of g.O.Sink c.write_kept_line.new.out in

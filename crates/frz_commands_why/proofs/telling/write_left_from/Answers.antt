@@ -9,7 +9,7 @@ use Rattle.frz_commands_why.proofs.telling.write_left_from.Goals as goal
 pub returns-in_err-write_exit : goal.returns-in_err-write_exit
 returns-in_err-write_exit g c =
     let deciding = c.args.deciding.now in
-    left_wrote (decider_of deciding.numbers.now deciding.rules.now
+    left_wrote (decider_of deciding.leans deciding.numbers.now deciding.rules.now
     (map loaded_back deciding.backs.now)) c.args.value c.args.p.now c.args.mv c.after-q.result
     c.as_position.result.now c.decider-decider.result c.after-q.ensures.position
     c.as_position.ensures c.decider-decider.ensures c.from_residual.result
@@ -19,7 +19,7 @@ returns-in_err-write_exit g c =
 pub returns : goal.returns
 returns g c =
     let deciding = c.args.deciding.now in
-    left_wrote (decider_of deciding.numbers.now deciding.rules.now
+    left_wrote (decider_of deciding.leans deciding.numbers.now deciding.rules.now
     (map loaded_back deciding.backs.now)) c.args.value c.args.p.now c.args.mv c.after-q.result
     c.as_position.result.now c.decider-decider.result c.after-q.ensures.position
     c.as_position.ensures c.decider-decider.ensures c.write_lack.result

@@ -22,7 +22,7 @@ returns-clause-told g c =
     let own = c.args.own.now in
     let value = g.B.ExitBook.value_at c.args.book.now in
     let deciding = c.args.deciding.now in
-    let decider = decider_of deciding.numbers.now deciding.rules.now
+    let decider = decider_of deciding.leans deciding.numbers.now deciding.rules.now
     (map loaded_back deciding.backs.now) in
     let old = sink_of g.O.Sink c.args.out.now in
     let new = sink_of g.O.Sink c.tell_why.new.out in
