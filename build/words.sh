@@ -22,10 +22,10 @@ find_names() {
 most_backs=16
 
 # Sets `reads` to the place of the first name and those of the tables behind, which are all words from
-# the place $2 on, where these are so many: $3 at least.
+# the place $2 on.
 find_tables_behind() {
     local at backs=$(($1 - $2))
-    [ "$backs" -ge "$3" ] && [ "$backs" -le "$most_backs" ] || return 0
+    [ "$backs" -ge 0 ] && [ "$backs" -le "$most_backs" ] || return 0
     reads=(1)
     for ((at = $2; at < $1; at++)); do
         reads+=("$at")
@@ -35,12 +35,9 @@ find_tables_behind() {
 # A word that is no side is refused before any file is looked at.
 find_names_of_atlas() {
     case "${1-}" in
-        build) find_tables_behind $# 3 1 ;;
-        check | report) find_tables_behind $# 2 1 ;;
-        premises) find_tables_behind $# 2 0 ;;
-        verdict) find_tables_behind $# 3 0 ;;
-        line | play) ! is_side "${4-}" || find_tables_behind $# 4 1 ;;
-        why) ! is_side "${4-}" || find_tables_behind $# 4 0 ;;
+        build | verdict) find_tables_behind $# 3 ;;
+        check | report | premises) find_tables_behind $# 2 ;;
+        line | play | why) ! is_side "${4-}" || find_tables_behind $# 4 ;;
         query | each) [ $# -ne 3 ] || reads=(1) ;;
         size) [ $# -ne 2 ] || reads=(1) ;;
     esac

@@ -20,6 +20,8 @@ use Rattle.frz_check.specs.Kept.{kept_codes}
 use Rattle.frz_check.specs.KeptTables.{KeepsTables}
 use Rattle.frz_check.proofs.Lemmas.{bound_kept}
 use Rattle.frz_sets.specs.Views.{RuleLines}
+use Rattle.frz_game.specs.Values.{AreTrueExits}
+use Rattle.frz_exits.specs.Books.{value_by}
 use Rattle.frz_backs.specs.Links.{AreExact, AreTrueLines, Link, backs_of, value_over}
 use Rattle.frz_backs.proofs.Lemmas.{exits_over_true}
 use Rattle.frz_atlas.specs.Behind.{TableBytes, leans, link_of}
