@@ -32,7 +32,7 @@ use Rattle.frz_journeys.specs.declared.place.Place.TheVariants.{Own}
 use Rattle.frz_journeys.specs.Playing.{TellsJourney}
 use Rattle.frz_commands_line.proofs.Lemmas.{by_member}
 use Rattle.frz_commands_journeys.specs.Endings.{EndsJourney, HasNearPlace, IsNear}
-use Rattle.frz_commands_journeys.specs.JourneyOf.{leaning}
+use Rattle.frz_commands_journeys.specs.JourneyOf.{own_table}
 use Rattle.frz_commands_line.specs.WayJobs.{input_with}
 use Rattle.frz_commands_journeys.specs.Journeying.{journeying_at}
 use Rattle.frz_commands_journeys.proofs.InputHeard.{hears_what_it_took}
@@ -76,7 +76,7 @@ module _ (there : JourneyThere) (player : Player) (table : List ℕ) (behind : L
     (backs : List BackTable) (same_backs : backs ≡ given.backs.items)
     (w : WroteJourney player given backs p arrival told left out mid before now) where
   abbrev tells : TellsJourney player.opponent player.side (map link_of l.tables)
-      (leaning (contents_of given.table.table) l.bytes) p w.2 w.1 w.0 arrival before now
+      (own_table (contents_of given.table.table) l.bytes) p w.2 w.1 w.0 arrival before now
   tells =
       told_by_files given l player p w.2 w.1 w.0 arrival before now
       (subst (λ (b : List BackTable). TellsJourney player.opponent player.side (map link_loaded b)
@@ -93,7 +93,7 @@ module _ (there : JourneyThere) (player : Player) (table : List ℕ) (behind : L
       by_member given.table.table.rules.groups p
       (λ inside.
       let links = map link_of l.tables in
-      let own = leaning (contents_of given.table.table) l.bytes in
+      let own = own_table (contents_of given.table.table) l.bytes in
       let j = there player.opponent player.side links own Own p (first_input w.2) in
       let so = tells inside j.0 j.1 j.2 in
       near_wrong arrival.place arrival.answer

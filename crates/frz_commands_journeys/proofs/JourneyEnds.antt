@@ -9,8 +9,7 @@ use Rattle.frz_index.proofs.Lemmas.{of_member}
 use Rattle.frz_store.specs.Files.{Files}
 use Rattle.frz_store.specs.Told.{StoreTold, SourceTold, SinkTold, StoreQuiet, StoreFine}
 use Rattle.frz_table.specs.declared.fault.TableFault.{TableFault}
-use Rattle.frz_table.specs.declared.kind.FileKind.TheVariants.{Atlas}
-use Rattle.frz_table.specs.Opening.{Contents, contents_of, opened, table_format}
+use Rattle.frz_table.specs.Opening.{Contents, contents_of, opened, own_format}
 use Rattle.frz_backs.specs.Links.{Link}
 use Rattle.frz_atlas.specs.Behind.{TableBytes, link_of}
 use Rattle.frz_atlas.specs.Held.{all_held}
@@ -54,7 +53,7 @@ use Rattle.frz_journeys.specs.Playing.{TellsJourney, turns_in}
 use Rattle.frz_commands_line.proofs.Lemmas.{after_lines, by_member, cut_within, ended_as, lines_came, not_member, once_is_not, quiet_then, rest_after, unfailed_source}
 use Rattle.frz_commands_journeys.specs.Costs.{CostsAt, StepsBy, journey_costs}
 use Rattle.frz_commands_journeys.specs.Endings.{EndsJourney, answer_status, naming}
-use Rattle.frz_commands_journeys.specs.JourneyOf.{IsJourneyBy, IsPlayed, IsPlayedAt, IsPlayedBy, IsPlayedOver, heard_by, journey_answer, leaning, played_text}
+use Rattle.frz_commands_journeys.specs.JourneyOf.{IsJourneyBy, IsPlayed, IsPlayedAt, IsPlayedBy, IsPlayedOver, heard_by, journey_answer, own_table, played_text}
 use Rattle.frz_commands_line.specs.WayJobs.{takes_input}
 use Rattle.frz_commands_journeys.specs.Journeying.{journeying_at, statuses_of}
 use Rattle.frz_commands_journeys.proofs.InputHeard.{Hears, chosen, heard_whole, may_rest, may_whole, none_taken, split_there, untaken_is_free}
@@ -107,12 +106,12 @@ pub record PlayedSo (player : Player) (p : Board) (contents : Contents) (bytes :
 pub played_so : JourneyThere → (player : Player) (p : Board) (contents : Contents)
     (bytes : List ℕ) (tables : List TableBytes) (whole took text : List ℕ) (arrival : Arrival)
     (before now : ℕ) → Member contents.rules.groups p
-    → TellsJourney player.opponent player.side (map link_of tables) (leaning contents bytes) p whole
+    → TellsJourney player.opponent player.side (map link_of tables) (own_table contents bytes) p whole
     took text arrival before now
     → PlayedSo player p contents bytes tables whole took text arrival.place arrival.answer before now
 played_so there player p contents bytes tables whole took text arrival before now inside tells =
     let links = map link_of tables in
-    let own = leaning contents bytes in
+    let own = own_table contents bytes in
     let j = there player.opponent player.side links own Own p (first_input whole) in
     let so = tells inside j.0 j.1 j.2 in
     record {
@@ -161,7 +160,7 @@ module _ (player : Player) (table : List ℕ) (behind_it : List (List ℕ)) (p :
       → IsPlayedOver player p contents l.bytes (Ok l.tables) heard files a
       → IsPlayedAt player table behind_it p heard files a
   by_files heard a is =
-      subst (λ (o : Option (List ℕ)). IsPlayedBy player p (opened (table_format Atlas) o)
+      subst (λ (o : Option (List ℕ)). IsPlayedBy player p (opened own_format o)
       (unwrap_or o []) (opened_all (map files behind_it)) heard files a) (sym h.here)
       (subst (λ (x : Result Contents TableFault). IsPlayedBy player p x l.bytes
       (opened_all (map files behind_it)) heard files a) (sym l.opens)
@@ -470,7 +469,7 @@ module _ (player : Player) (table : List ℕ) (behind_it : List (List ℕ)) (p :
       (text : List ℕ) × (took : List ℕ) × (whole : List ℕ) × IsLines text
       × WroteBy arrival.answer text out mid
       × Hears player.opponent whole took arrival.answer source gone
-      × TellsJourney player.opponent player.side (map link_of l.tables) (leaning contents l.bytes) p
+      × TellsJourney player.opponent player.side (map link_of l.tables) (own_table contents l.bytes) p
       whole took text arrival before now
 
   pub journey_ran : JourneyThere → (arrival : Arrival) (end : End)

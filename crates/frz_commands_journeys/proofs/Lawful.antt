@@ -55,5 +55,5 @@ module _ (there : JourneyThere) (alone : JourneyAlone) (laws : JourneyLaws) (opp
 
     pub journey_lawful : (words : List (List ℕ)) → IsLawful (journey_words opponent words)
     journey_lawful words =
-        asked_lawful 1 (journeying_named opponent)
+        asked_lawful 0 (journeying_named opponent)
         (λ names. for_lawful names.table names.behind names.fen names.side) words

@@ -11,8 +11,7 @@ use Rattle.frz_index.proofs.Lemmas.{member_of, of_member}
 use Rattle.frz_store.specs.Files.{Files}
 use Rattle.frz_table.specs.declared.fault.TableFault.{TableFault}
 use Rattle.frz_table.specs.declared.fault.TableFault.TheVariants as table_faults
-use Rattle.frz_table.specs.declared.kind.FileKind.TheVariants.{Atlas}
-use Rattle.frz_table.specs.Opening.{Contents, opened, table_format}
+use Rattle.frz_table.specs.Opening.{Contents, opened, own_format}
 use Rattle.frz_table.proofs.Lemmas.{opened_missing}
 use Rattle.frz_arena.specs.declared.bound.Bound.TheVariants.{Wins, Holds}
 use Rattle.frz_arena.specs.Codes.{code_of}
@@ -20,10 +19,12 @@ use Rattle.frz_game.specs.declared.wrong.Wrong.{Wrong as WrongEntry}
 use Rattle.frz_check.specs.Kept.{kept_codes}
 use Rattle.frz_check.specs.KeptTables.{KeepsTables}
 use Rattle.frz_check.proofs.Lemmas.{bound_kept}
-use Rattle.frz_backs.specs.Links.{AreExact, Link, backs_of}
-use Rattle.frz_backs.specs.Values.{atlas_value}
+use Rattle.frz_sets.specs.Views.{RuleLines}
+use Rattle.frz_game.specs.Values.{AreTrueExits}
+use Rattle.frz_exits.specs.Books.{value_by}
+use Rattle.frz_backs.specs.Links.{AreExact, AreTrueLines, Link, backs_of, value_over}
 use Rattle.frz_backs.proofs.Lemmas.{exits_over_true}
-use Rattle.frz_atlas.specs.Behind.{TableBytes, link_of}
+use Rattle.frz_atlas.specs.Behind.{TableBytes, leans, link_of}
 use Rattle.frz_atlas.specs.Loading.{opened_all}
 use Rattle.frz_atlas.specs.declared.fault.BackFault.TheVariants.{Refused}
 use Rattle.frz_answer.specs.declared.status.Status.{Status}
@@ -59,7 +60,7 @@ use Rattle.frz_journeys.specs.Journeys.{IsJourney, Stage, onward}
 use Rattle.frz_journeys.specs.KeptBounds.{EndsHeldAt, EndsWonAt, HaveOwnSets, IsHeldAt, IsWonAt}
 use Rattle.frz_journeys.specs.Tables.{codes_of}
 use Rattle.frz_commands_journeys.specs.Endings.{answer_status}
-use Rattle.frz_commands_journeys.specs.JourneyOf.{IsPlayed, IsPlayedAt, IsPlayedBy, IsPlayedOver, leaning, played_text}
+use Rattle.frz_commands_journeys.specs.JourneyOf.{IsPlayed, IsPlayedAt, IsPlayedBy, IsPlayedOver, own_table, played_text}
 use Rattle.frz_commands_journeys.specs.Meaning.{ArrivesSo, HasJourney, MeansStatus, Opens, start_code}
 use Rattle.frz_commands_journeys.proofs.LineUnstopped.{never_limited}
 
@@ -109,9 +110,16 @@ many_links (table ∷ tables) = ap suc (many_links tables)
 
 -- the codes of a side in TABLE
 own_codes : (side : Colour) (contents : Contents) (bytes : List ℕ)
-    → codes_of side (leaning contents bytes) ≡ kept_codes contents bytes side
+    → codes_of side (own_table contents bytes) ≡ kept_codes contents bytes side
 own_codes White contents bytes = refl
 own_codes Black contents bytes = refl
+
+-- exits over exact tables are true where the lines are
+exits_so : (leaning : Bool) (rules : RuleLines) (links : List Link) → AreExact links
+    → AreTrueLines links → AreTrueExits rules (value_by rules)
+    → AreTrueExits rules (value_over leaning rules (backs_of links))
+exits_so true rules links exact lines own = exits_over_true rules links exact lines own
+exits_so false rules links exact lines own = own
 
 -- the faults at which a journey arrives
 data IsTold : PlayFault → Type 0 where
@@ -267,7 +275,7 @@ module _ (laws : JourneyLaws) (player : Player) (table : List ℕ) (behind : Lis
   }
 
   module _ (bytes : List ℕ) (contents : Contents) (there : files table ≡ Some bytes)
-      (opens : opened (table_format Atlas) (Some bytes) ≡ Ok contents)
+      (opens : opened own_format (Some bytes) ≡ Ok contents)
       (tables : List TableBytes) (all_open : opened_all (map files behind) ≡ Ok tables) where
     abbrev files_open : Opens table behind files
     files_open = record {
@@ -282,7 +290,7 @@ module _ (laws : JourneyLaws) (player : Player) (table : List ℕ) (behind : Lis
     links = map link_of tables
 
     abbrev own : Link
-    own = leaning contents bytes
+    own = own_table contents bytes
 
     module _ (inside : Member contents.rules.groups p)
         (h : IsPlayed player p contents bytes tables heard files a) where
@@ -334,7 +342,7 @@ module _ (laws : JourneyLaws) (player : Player) (table : List ℕ) (behind : Lis
       -- exact tables are never wrong
       not_exact : (w : WrongEntry)
           → Arrives side h.stages h.place (Err (plays.Line (faults.Wrong w)))
-          → AreExact links → KeepsTables (atlas_value contents.rules (backs_of links)) contents bytes
+          → AreExact links → KeepsTables (value_over (leans bytes) contents.rules (backs_of links)) contents bytes
           → ⊥
       not_exact w arrives exact keeps =
           not_last (Err (plays.Line (faults.Wrong w))) EndsRight
@@ -411,9 +419,9 @@ module _ (laws : JourneyLaws) (player : Player) (table : List ℕ) (behind : Lis
             arrives = arrives_so (Ok last) is;
             win = won_at_last;
             hold = held_at_last;
-            where_exact = λ keeps. bound_kept (atlas_value contents.rules (backs_of links)) contents
+            where_exact = λ keeps. bound_kept (value_over (leans bytes) contents.rules (backs_of links)) contents
                 bytes keeps side p inside;
-            true_exits = λ exact lines all. exits_over_true contents.rules links exact all lines;
+            true_exits = λ exact lines all. exits_so (leans bytes) contents.rules links exact lines all;
           })
       by_answer (Err fault) is =
           by_fault fault is
@@ -438,7 +446,7 @@ module _ (laws : JourneyLaws) (player : Player) (table : List ℕ) (behind : Lis
         }))
 
   by_behind : (bytes : List ℕ) (contents : Contents) → files table ≡ Some bytes
-      → opened (table_format Atlas) (Some bytes) ≡ Ok contents
+      → opened own_format (Some bytes) ≡ Ok contents
       → (y : Result (List TableBytes) (ℕ × TableFault)) → opened_all (map files behind) ≡ y
       → IsPlayedOver player p contents bytes y heard files a
       → MeansSo player table behind p files heard a
@@ -446,7 +454,7 @@ module _ (laws : JourneyLaws) (player : Player) (table : List ℕ) (behind : Lis
       by_member bytes contents there opens tables are (is_member contents.rules.groups p) refl h
   by_behind bytes contents there opens (Err refused) are told_so =
       let refuses = of_back (record {
-        opens = (contents, ap (opened (table_format Atlas)) there ∙ opens);
+        opens = (contents, ap (opened own_format) there ∙ opens);
         place = refused.0;
         fault = refused.1;
         refused = are;
@@ -457,16 +465,16 @@ module _ (laws : JourneyLaws) (player : Player) (table : List ℕ) (behind : Lis
       refuses)
 
   by_held : (held : Option (List ℕ)) → files table ≡ held → (contents : Contents)
-      → opened (table_format Atlas) held ≡ Ok contents
+      → opened own_format held ≡ Ok contents
       → IsPlayedOver player p contents (unwrap_or held []) (opened_all (map files behind)) heard
       files a → MeansSo player table behind p files heard a
   by_held None there contents opens h =
       absurd (result_is_not_both _ contents table_faults.Missing opens
-      (opened_missing (table_format Atlas)))
+      (opened_missing own_format))
   by_held (Some bytes) there contents opens h =
       by_behind bytes contents there opens (opened_all (map files behind)) refl h
 
-  by_opening : (x : Result Contents TableFault) → opened (table_format Atlas) (files table) ≡ x
+  by_opening : (x : Result Contents TableFault) → opened own_format (files table) ≡ x
       → IsPlayedBy player p x (unwrap_or (files table) []) (opened_all (map files behind)) heard
       files a → MeansSo player table behind p files heard a
   by_opening (Ok contents) opens h = by_held (files table) refl contents opens h
@@ -478,4 +486,4 @@ module _ (laws : JourneyLaws) (player : Player) (table : List ℕ) (behind : Lis
 
   pub means_at : IsPlayedAt player table behind p heard files a
       → MeansSo player table behind p files heard a
-  means_at h = by_opening (opened (table_format Atlas) (files table)) refl h
+  means_at h = by_opening (opened own_format (files table)) refl h

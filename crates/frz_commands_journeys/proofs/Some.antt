@@ -7,8 +7,7 @@ use Rattle.frz_board.specs.declared.man.Colour.{Colour}
 use Rattle.frz_index.specs.Membership.{is_member}
 use Rattle.frz_store.specs.Files.{Files}
 use Rattle.frz_table.specs.declared.fault.TableFault.{TableFault}
-use Rattle.frz_table.specs.declared.kind.FileKind.TheVariants.{Atlas}
-use Rattle.frz_table.specs.Opening.{Contents, opened, table_format}
+use Rattle.frz_table.specs.Opening.{Contents, opened, own_format}
 use Rattle.frz_backs.specs.Links.{Link}
 use Rattle.frz_atlas.specs.Behind.{TableBytes, link_of}
 use Rattle.frz_atlas.specs.Loading.{opened_all}
@@ -30,7 +29,7 @@ use Rattle.frz_journeys.specs.declared.place.Place.{Place}
 use Rattle.frz_journeys.specs.declared.place.Place.TheVariants.{Own}
 use Rattle.frz_journeys.specs.Arrivals.{Arrives}
 use Rattle.frz_journeys.specs.Journeys.{IsJourney, Stage}
-use Rattle.frz_commands_journeys.specs.JourneyOf.{IsPlayed, IsPlayedAt, IsPlayedBy, journey_answer, leaning}
+use Rattle.frz_commands_journeys.specs.JourneyOf.{IsPlayed, IsPlayedAt, IsPlayedBy, journey_answer, own_table}
 use Rattle.frz_commands_journeys.proofs.JourneyEnds.{JourneyThere}
 use Rattle.frz_commands_journeys.proofs.Texts.{arrival_of, journey_said, one_arrival, some_stages}
 
@@ -53,7 +52,7 @@ module _ (there : JourneyThere) (player : Player) (p : Board) (heard : List ℕ)
       → SomeAnswer (λ a. IsPlayed player p contents bytes tables heard files a)
   some_played contents bytes tables =
       let links = map link_of tables in
-      let own = leaning contents bytes in
+      let own = own_table contents bytes in
       let j = there player.opponent player.side links own Own p (first_input heard) in
       let at = arrival_of player.side j.0
       (some_stages player.opponent player.side links own Own p (first_input heard) j.0 j.1 j.2) in
@@ -101,7 +100,7 @@ module _ (there : JourneyThere) (player : Player) (p : Board) (heard : List ℕ)
         → IsPlayed player p contents bytes tables heard files a
         → IsPlayed player p contents bytes tables heard files b → b ≡ a
     one_played contents bytes tables h k =
-        let same = alone player.opponent player.side (map link_of tables) (leaning contents bytes)
+        let same = alone player.opponent player.side (map link_of tables) (own_table contents bytes)
         Own p (first_input heard) k.stages h.stages k.left h.left k.journey h.journey in
         let arrived = one_arrival player.side h.stages k.place h.place k.answer h.answer
         (subst (λ (s : List Stage). Arrives player.side s k.place k.answer) same.0 k.arrives)
@@ -133,7 +132,7 @@ module _ (there : JourneyThere) (player : Player) (table : List ℕ) (behind : L
     (p : Board) (heard : List ℕ) (files : Files) where
   pub some_at : SomeAnswer (λ a. IsPlayedAt player table behind p heard files a)
   some_at =
-      some_by there player p heard files (opened (table_format Atlas) (files table))
+      some_by there player p heard files (opened own_format (files table))
       (unwrap_or (files table) []) (opened_all (map files behind))
 
   pub one_at : JourneyAlone → HasOneAnswer (λ a. IsPlayedAt player table behind p heard files a)
@@ -141,6 +140,6 @@ module _ (there : JourneyThere) (player : Player) (table : List ℕ) (behind : L
     some_at.a,
     some_at.answer,
     λ b k. one_by there player p heard files alone some_at.a b
-        (opened (table_format Atlas) (files table)) (unwrap_or (files table) [])
+        (opened own_format (files table)) (unwrap_or (files table) [])
         (opened_all (map files behind)) some_at.answer k,
   )

@@ -15,28 +15,18 @@ use Rattle.frz_atlas.specs.declared.reading.LoadedAtlas.{LoadedAtlas}
 use Rattle.frz_ways.specs.declared.opponent.Player.{Player}
 use Rattle.frz_journeys.specs.declared.place.Arrival.{Arrival}
 use Rattle.frz_journeys.specs.Playing.{TellsJourney}
-use Rattle.frz_commands_journeys.specs.JourneyOf.{leaning}
-
-abbrev link_with : RuleLines → Bool → Back → Link
-link_with rules leans back = record { rules = rules; leans = leans; back = back }
+use Rattle.frz_commands_journeys.specs.JourneyOf.{own_table}
 
 module _ {table : List ℕ} {behind : List (List ℕ)} {old new : StoreTold} (given : LoadedAtlas)
     (l : LoadsAtlas table behind old new given) where
-  -- the table leans on those behind it
-  own_link : link_loaded given.table ≡ leaning (contents_of given.table.table) l.bytes
-  own_link =
-      ap (λ (kind : FileKind). link_with given.table.table.rules (leans_as kind)
-      (loaded_back given.table)) l.leaning
-      ∙ ap (λ (back : Back). link_with given.table.table.rules true back) l.keeps
-
   pub told_by_files : (player : Player) (p : Board) (whole took text : List ℕ) (arrival : Arrival)
       (before now : ℕ)
       → TellsJourney player.opponent player.side (map link_loaded given.backs.items)
       (link_loaded given.table) p whole took text arrival before now
       → TellsJourney player.opponent player.side (map link_of l.tables)
-      (leaning (contents_of given.table.table) l.bytes) p whole took text arrival before now
+      (own_table (contents_of given.table.table) l.bytes) p whole took text arrival before now
   told_by_files player p whole took text arrival before now tells =
       subst (λ (own : Link). TellsJourney player.opponent player.side (map link_of l.tables) own p
-      whole took text arrival before now) own_link
+      whole took text arrival before now) l.keeps
       (subst (λ (links : List Link). TellsJourney player.opponent player.side links
       (link_loaded given.table) p whole took text arrival before now) l.all_keep tells)

@@ -7,11 +7,10 @@ use Rattle.frz_index.specs.Membership.{is_member}
 use Rattle.frz_store.specs.Files.{Files}
 use Rattle.frz_store.specs.Told.{StoreTold, SourceTold, SinkTold, StoreQuiet}
 use Rattle.frz_table.specs.declared.fault.TableFault.{TableFault}
-use Rattle.frz_table.specs.declared.kind.FileKind.TheVariants.{Atlas}
-use Rattle.frz_table.specs.Opening.{Contents, opened, table_format}
+use Rattle.frz_table.specs.Opening.{Contents, opened, own_format}
 use Rattle.frz_atlas.specs.Behind.{TableBytes}
 use Rattle.frz_atlas.specs.Causes.{HasAtlasCause}
-use Rattle.frz_atlas.specs.Loading.{opened_all}
+use Rattle.frz_atlas.specs.Loading.{opened_all, opened_own}
 use Rattle.frz_atlas.specs.Reading.{IsUnopened, RefusesToRead}
 use Rattle.frz_atlas.specs.declared.fault.AtlasFault.{AtlasFault}
 use Rattle.frz_atlas.specs.declared.fault.AtlasFault.TheVariants.{Rules, Table, Back as BackAt, Failed, NoMemory}
@@ -102,16 +101,16 @@ module _ (there : JourneyThere) (player : Player) (table : List ℕ) (behind : L
         calls = r.within.calls;
         asked = r.within.asked;
       })))
-      player p (opened (table_format Atlas) (files table)) (unwrap_or (files table) [])
+      player p (opened own_format (files table)) (unwrap_or (files table) [])
       (opened_all (map files behind)) heard
 
   -- the answer by what the names hold
   by_held : (x : Result Contents TableFault) (y : Result (List TableBytes) (ℕ × TableFault))
-      → opened (table_format Atlas) r.held ≡ x → opened_all r.helds ≡ y → (heard : List ℕ)
+      → opened own_format r.held ≡ x → opened_all r.helds ≡ y → (heard : List ℕ)
       (a : Answer) → IsPlayedBy player p x (unwrap_or r.held []) y heard files a
       → IsPlayedAt player table behind p heard files a
   by_held x y opens are heard a is =
-      subst (λ (o : Option (List ℕ)). IsPlayedBy player p (opened (table_format Atlas) o)
+      subst (λ (o : Option (List ℕ)). IsPlayedBy player p (opened own_format o)
       (unwrap_or o []) (opened_all (map files behind)) heard files a) (sym h.here)
       (subst (λ (z : Result Contents TableFault). IsPlayedBy player p z (unwrap_or r.held [])
       (opened_all (map files behind)) heard files a) (sym opens)
@@ -127,7 +126,7 @@ module _ (there : JourneyThere) (player : Player) (table : List ℕ) (behind : L
     costs = costs_no_steps (heard_by player.opponent left);
   }
 
-  may_end : (f : AtlasFault) → IsUnopened (opened (table_format Atlas)) r.held r.helds f
+  may_end : (f : AtlasFault) → IsUnopened opened_own r.held r.helds f
       → HasAtlasCause {T = LoadedAtlas} (Err f) old new → MayEndAt job f start mid
   may_end (Rules f) refused cause = absurd refused
   may_end (Table f) refused cause = (
@@ -142,7 +141,7 @@ module _ (there : JourneyThere) (player : Player) (table : List ℕ) (behind : L
   may_end Failed refused cause = (refl, cause)
   may_end NoMemory refused cause = refl
 
-  answers_at : (f : AtlasFault) → IsUnopened (opened (table_format Atlas)) r.held r.helds f → (m : Files)
+  answers_at : (f : AtlasFault) → IsUnopened opened_own r.held r.helds f → (m : Files)
       (left : List ℕ) → Agrees start m left → AnswersAt job f m left start mid
   answers_at (Rules f) refused m left agrees = absurd refused
   answers_at (Table f) refused m left agrees = record {

@@ -5,8 +5,7 @@ use Rattle.std.specs.Option.{unwrap_or}
 use Rattle.frz_board.specs.Boards.{Board}
 use Rattle.frz_index.specs.Membership.{is_member}
 use Rattle.frz_table.specs.declared.fault.TableFault.{TableFault}
-use Rattle.frz_table.specs.declared.kind.FileKind.TheVariants.{Atlas}
-use Rattle.frz_table.specs.Opening.{Contents, opened, table_format}
+use Rattle.frz_table.specs.Opening.{Contents, opened, own_format}
 use Rattle.frz_atlas.specs.Behind.{TableBytes}
 use Rattle.frz_atlas.specs.Loading.{opened_all}
 use Rattle.frz_answer.specs.World.{Spent}
@@ -43,4 +42,4 @@ abbrev pub CostsAt : Player → Board → Option (List ℕ) → List (Option (Li
     Spent → Spent → Type 0
 CostsAt player p held behind heard before now =
     StepsBy (λ steps. WithinCosts (journey_costs held behind steps) before now) player p
-    (opened (table_format Atlas) held) (unwrap_or held []) (opened_all behind) heard
+    (opened own_format held) (unwrap_or held []) (opened_all behind) heard

@@ -1,12 +1,10 @@
 -- What `line` and `play` answer: the journey of a side by the codes in the files. No file changes.
-use Rattle.std.specs.Prelude.{◌≡◌, ℕ, ◌-◌, List, [], ◌++◌, length, map, true, MatchBool, Result, Ok, Err}
+use Rattle.std.specs.Prelude.{◌≡◌, ℕ, ◌-◌, List, [], ◌++◌, length, map, MatchBool, Result, Ok, Err}
 use Rattle.frz_board.specs.Boards.{Board}
 use Rattle.frz_index.specs.Membership.{is_member}
 use Rattle.frz_store.specs.Files.{Files, bytes_at}
 use Rattle.frz_table.specs.declared.fault.TableFault.{TableFault}
-use Rattle.frz_table.specs.declared.kind.FileKind.TheVariants.{Atlas}
-use Rattle.frz_table.specs.Opening.{Contents, opened, table_format}
-use Rattle.frz_backs.specs.FileOn.{back_of}
+use Rattle.frz_table.specs.Opening.{Contents, opened, own_format}
 use Rattle.frz_backs.specs.Links.{Link}
 use Rattle.frz_atlas.specs.Behind.{TableBytes, link_of}
 use Rattle.frz_atlas.specs.Loading.{opened_all}
@@ -35,17 +33,16 @@ abbrev pub heard_by : Opponent → List ℕ → List ℕ
 heard_by opponents.Codes input = []
 heard_by opponents.Input input = input
 
--- the table in these bytes, which leans on all those behind it
-abbrev pub leaning : Contents → List ℕ → Link
-leaning contents bytes =
-    record { rules = contents.rules; leans = true; back = back_of contents bytes }
+-- the table in these bytes, which leans on those behind it where it begins so
+abbrev pub own_table : Contents → List ℕ → Link
+own_table contents bytes = link_of (record { bytes = bytes; contents = contents })
 
 -- the player has these stages from the position, by the codes in the bytes of TABLE and of the
 -- BACKs, and leaves this of what it heard
 abbrev pub IsJourneyBy : Player → Board → Contents → List ℕ → List TableBytes → (heard : List ℕ) →
     List Stage → Input → Type 0
 IsJourneyBy player p contents bytes tables heard stages left =
-    IsJourney player.opponent player.side (map link_of tables) (leaning contents bytes) Own p
+    IsJourney player.opponent player.side (map link_of tables) (own_table contents bytes) Own p
     (reading.opened heard) stages left
 
 -- the text of the stages, and the naming line of an end for which the journey itself writes nothing
@@ -97,5 +94,5 @@ IsPlayedBy player p (Err fault) bytes behind heard files a =
 abbrev pub IsPlayedAt : Player → List ℕ → List (List ℕ) → Board → (heard : List ℕ) → Files →
     Answer → Type 0
 IsPlayedAt player table behind p heard files a =
-    IsPlayedBy player p (opened (table_format Atlas) (files table)) (bytes_at files table)
+    IsPlayedBy player p (opened own_format (files table)) (bytes_at files table)
     (opened_all (map files behind)) heard files a

@@ -60,9 +60,8 @@ abbrev pub journeying_named : Opponent → AskedNames → Job
 journeying_named opponent names =
     journeying_for opponent names.table names.behind names.fen names.side
 
--- there is at least one BACK
 abbrev pub journey_words : Opponent → List (List ℕ) → Job
-journey_words opponent words = asked_words 1 (journeying_named opponent) words
+journey_words opponent words = asked_words 0 (journeying_named opponent) words
 
 -- line TABLE FEN SIDE BACK ..
 abbrev pub line_words : List (List ℕ) → Job

@@ -6,7 +6,6 @@ use Rattle.frz_sets.specs.declared.exit.Value.{Value}
 use Rattle.frz_exits.specs.Books.{value_by}
 use Rattle.frz_index.specs.Members.{Member, Num}
 use Rattle.frz_store.specs.Files.{Files}
-use Rattle.frz_table.specs.declared.kind.FileKind.TheVariants.{Atlas}
 use Rattle.frz_table.specs.Opening.{Contents}
 use Rattle.frz_check.specs.Kept.{kept_codes}
 use Rattle.frz_check.specs.KeptTables.{KeepsBound, KeepsTables}
@@ -14,14 +13,13 @@ use Rattle.frz_arena.specs.declared.bound.Bound.TheVariants.{Wins, Holds}
 use Rattle.frz_arena.specs.Codes.{code_of}
 use Rattle.frz_game.specs.Values.{AreTrueExits}
 use Rattle.frz_game.specs.declared.wrong.Wrong.{Wrong as WrongEntry}
-use Rattle.frz_backs.specs.Links.{AreExact, AreTrueLines, Link, backs_of}
-use Rattle.frz_backs.specs.Values.{atlas_value}
-use Rattle.frz_atlas.specs.Behind.{TableBytes, link_of}
+use Rattle.frz_backs.specs.Links.{AreExact, AreTrueLines, Link, backs_of, value_over}
+use Rattle.frz_atlas.specs.Behind.{TableBytes, leans, link_of}
 use Rattle.frz_atlas.specs.Loading.{opened_all}
 use Rattle.frz_answer.specs.declared.status.Status.{Status}
 use Rattle.frz_answer.specs.declared.status.Status.TheVariants.{Success, Wrong, Table, Outside, Missing, Limit}
 use Rattle.frz_answer.specs.Answers.{Answer}
-use Rattle.frz_prelude.specs.TableFiles.{OpensAsKind}
+use Rattle.frz_atlas_prelude.specs.OwnFiles.{OpensAsOwn}
 use Rattle.frz_atlas_prelude.specs.TableRefusals.{TellsRefusal}
 use Rattle.frz_ways.specs.declared.end.LineFault.TheVariants as faults
 use Rattle.frz_ways.specs.declared.opponent.Opponent.TheVariants as opponents
@@ -36,13 +34,13 @@ use Rattle.frz_journeys.specs.Arrivals.{Arrives}
 use Rattle.frz_journeys.specs.Journeys.{Stage}
 use Rattle.frz_journeys.specs.JourneyGames.{AreLegalFrom, AtEach, AtLast, IsGameBy, moves_of}
 use Rattle.frz_journeys.specs.KeptBounds.{IsHeldAt, IsWonAt}
-use Rattle.frz_commands_journeys.specs.JourneyOf.{IsJourneyBy, leaning, played_text}
+use Rattle.frz_commands_journeys.specs.JourneyOf.{IsJourneyBy, own_table, played_text}
 
--- TABLE opens as a table that leans on others, and each of the BACKs as its own kind
+-- TABLE and each of the BACKs open as their own kinds
 pub record Opens (table : List ℕ) (behind : List (List ℕ)) (files : Files) : Type 0 where
   pub bytes : List ℕ
   pub contents : Contents
-  pub open_file : OpensAsKind Atlas table files bytes contents
+  pub open_file : OpensAsOwn table files bytes contents
   pub tables : List TableBytes
   pub all_open : opened_all (map files behind) ≡ Ok tables
 
@@ -59,7 +57,7 @@ pub record HasJourney (player : Player) (table : List ℕ) (behind : List (List 
       stages left
   pub legal : AreLegalFrom p (moves_of stages)
   pub games : AtEach (IsGameBy player.side) (map link_of files_open.tables)
-      (leaning files_open.contents files_open.bytes) stages
+      (own_table files_open.contents files_open.bytes) stages
   pub few : length stages ≤ 1 + length files_open.tables
 
 module _ {player : Player} {table : List ℕ} {behind : List (List ℕ)} {p : Board} {files : Files}
@@ -74,13 +72,14 @@ module _ {player : Player} {table : List ℕ} {behind : List (List ℕ)} {p : Bo
   abbrev pub EndsAs : (Link → Stage → Type 0) → HasJourney player table behind p files heard → Type 0
   EndsAs P has =
       AtLast P (map link_of has.files_open.tables)
-      (leaning has.files_open.contents has.files_open.bytes) has.stages
+      (own_table has.files_open.contents has.files_open.bytes) has.stages
 
-  -- the values of the exits of TABLE: by its exit lines, and by the first of the BACKs whose set
-  -- holds the position where the lines say nothing
+  -- the values of the exits of TABLE: by its exit lines and, where it leans on the BACKs, by the
+  -- first of them whose set holds the position where the lines say nothing
   abbrev pub value_behind : HasJourney player table behind p files heard → Board → Value
   value_behind has =
-      atlas_value has.files_open.contents.rules (backs_of (map link_of has.files_open.tables))
+      value_over (leans has.files_open.bytes) has.files_open.contents.rules
+      (backs_of (map link_of has.files_open.tables))
 
   -- the codes in TABLE are its tables over the BACKs
   abbrev pub KeepsItsTables : HasJourney player table behind p files heard → Type 0

@@ -146,7 +146,7 @@ pub fn run_journey<S: Store, I: Source, O: Sink, L: Ledger>(
     ensures input_unused { (journey_words opponent (map string_bytes words.now)).needs.input ≡ false
         → input.new ≡ input.old }
 {
-    match asked_names(words, 1) {
+    match asked_names(words, 0) {
         Ok(names) => play_for(alloc, &names, opponent, store, input, out, steps),
         Err(why) => refuse(why, out),
     }

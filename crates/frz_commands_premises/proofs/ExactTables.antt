@@ -5,7 +5,7 @@ use Rattle.std.specs.Prelude.{map, sum_by}
 use Rattle.std.proofs.lemmas.List.Elements.{All-cons, All-nil}
 use Rattle.std.proofs.lemmas.List.Sums.{sum_by-cons}
 use Rattle.frz_sets.specs.Sets.{size_of}
-use Rattle.frz_table.specs.Opening.{table_format}
+use Rattle.frz_table.specs.Opening.{own_format}
 use Rattle.frz_table.proofs.Lemmas.{belongs}
 use Rattle.frz_check.specs.Kept.{opened_size}
 use Rattle.frz_backs.specs.Books.{Back}
@@ -13,7 +13,7 @@ use Rattle.frz_backs.specs.FileOn.{back_of}
 use Rattle.frz_backs.specs.BackTable.{BackTable}
 use Rattle.frz_backs.specs.Links.{AreExactOver, Link}
 use Rattle.frz_backs.specs.Loaded.{link_loaded}
-use Rattle.frz_atlas.specs.Behind.{AreJudged, AreJudgedOver, TableBytes, kind_of, link_of}
+use Rattle.frz_atlas.specs.Behind.{AreJudged, AreJudgedOver, TableBytes, link_of}
 use Rattle.frz_atlas.specs.Costs.{steps_of}
 use Rattle.frz_atlas.specs.Held.{all_held}
 use Rattle.frz_commands_premises.specs.PremiseLines.{TextLink, links_in, text_link_loaded, text_link_of}
@@ -56,7 +56,7 @@ unfolding AreJudgedOver
 read_over before [] h = All-nil IsReadAs
 read_over before (t ∷ tables) h =
     All-cons IsReadAs (text_link_of t) (map text_link_of tables)
-    (belongs (table_format (kind_of t.bytes)) t.bytes t.contents h.1.opens).read
+    (belongs own_format t.bytes t.contents h.1.opens).read
     (read_over (before ++ (back_of t.contents t.bytes ∷ [])) tables h.2)
 
 pub all_read : (tables : List TableBytes) → AreJudged tables →

@@ -23,14 +23,14 @@ use Rattle.frz_game.specs.declared.wrong.Wrong.{Wrong as WrongEntry}
 use Rattle.frz_store.specs.Files.{Files, bytes_at}
 use Rattle.frz_table.specs.declared.fault.TableFault.{TableFault}
 use Rattle.frz_table.specs.declared.fault.TableFault.TheVariants as table_faults
-use Rattle.frz_table.specs.Opening.{Contents, table_format}
+use Rattle.frz_table.specs.Opening.{Contents, own_format}
 use Rattle.frz_table.proofs.Lemmas.{belongs, opened_missing}
 use Rattle.frz_check.specs.Kept.{kept_codes}
 use Rattle.frz_check.specs.KeptTables.{KeepsBound, KeepsTables}
 use Rattle.frz_check.proofs.Lemmas.{bound_kept}
 use Rattle.frz_backs.specs.Books.{Back}
 use Rattle.frz_backs.specs.Links.{value_over}
-use Rattle.frz_atlas.specs.Behind.{TableBytes, backs_in, kind_of, leans}
+use Rattle.frz_atlas.specs.Behind.{TableBytes, backs_in, leans}
 use Rattle.frz_atlas.specs.Loading.{opened_all, opened_own}
 use Rattle.frz_answer.specs.declared.status.Status.{Status}
 use Rattle.frz_answer.specs.declared.status.Status.TheVariants as statuses
@@ -395,7 +395,7 @@ module _ (laws : WayLaws) (table : List ℕ) (behind : List (List ℕ)) (side : 
         open_file = record { there = there; opens = opens };
         tables = tables;
         all_open = are;
-      }) (belongs (table_format (kind_of bytes)) bytes contents opens).read
+      }) (belongs own_format bytes contents opens).read
       (is_member contents.rules.groups p) refl h
   by_behind bytes contents there opens (Err refused) are h =
       let refuses = of_back (contents, ap opened_own there ∙ opens) refused.0 refused.1 are h in

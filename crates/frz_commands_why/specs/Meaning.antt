@@ -16,7 +16,7 @@ use Rattle.frz_table.specs.declared.fault.TableFault.{TableFault}
 use Rattle.frz_table.specs.Opening.{Contents}
 use Rattle.frz_check.specs.Kept.{kept_codes}
 use Rattle.frz_check.specs.KeptTables.{KeepsBound, KeepsTables}
-use Rattle.frz_atlas.specs.Behind.{TableBytes, backs_in, kind_of, leans}
+use Rattle.frz_atlas.specs.Behind.{TableBytes, backs_in, leans}
 use Rattle.frz_atlas.specs.Loading.{opened_all, opened_own}
 use Rattle.frz_atlas.specs.declared.fault.BackFault.TheVariants.{Refused}
 use Rattle.frz_answer.specs.declared.status.Status.{Status}
@@ -25,7 +25,7 @@ use Rattle.frz_answer.specs.Answers.{Answer, says}
 use Rattle.frz_bound_lines.specs.BoundLines.{kept_line}
 use Rattle.frz_prelude.specs.Refusals.{table_status}
 use Rattle.frz_prelude.specs.TableCauses.{table_line}
-use Rattle.frz_prelude.specs.TableFiles.{OpensAsKind}
+use Rattle.frz_atlas_prelude.specs.OwnFiles.{OpensAsOwn}
 use Rattle.frz_atlas_prelude.specs.BackLines.{back_line}
 use Rattle.frz_reasons.specs.declared.denial.Denial.{Denial}
 use Rattle.frz_reasons.specs.declared.reason.Reason.{Reason}
@@ -45,7 +45,7 @@ use Rattle.frz_commands_why.specs.WhyOf.{IsToldOf, code_at, decider_behind, valu
 pub record Opens (table : List ℕ) (behind : List (List ℕ)) (files : Files) : Type 0 where
   pub bytes : List ℕ
   pub contents : Contents
-  pub open_file : OpensAsKind (kind_of bytes) table files bytes contents
+  pub open_file : OpensAsOwn table files bytes contents
   pub tables : List TableBytes
   pub all_open : opened_all (map files behind) ≡ Ok tables
 
