@@ -36,6 +36,7 @@ test_no_file_stands_twice_among_the_names_of_atlas() {
     refused_by_atlas verdict one FEN link
     refused_by_atlas verdict one FEN two ./two
     refused_by_atlas premises A ./A
+    refused_by_atlas ask A ./A
     refused_by_atlas premises A one two link
     refused_by_atlas build A ./A
     refused_by_atlas each one FEN link

@@ -75,6 +75,9 @@ test_what_reads_files_and_is_no_session_is_watched() {
     has "$out" $'play\r\ntable\r\nFEN\r\nwhite\r\none\r\n'
     has "$out" "status 7"
     has_not "$out" "atlas play:"
+    out=$(FREEZER_EVERY=0.2 "$repository/tests/terminal" $'\004' 1 "$toy/atlas" ask table one)
+    has "$out" $'ask\r\ntable\r\none\r\n'
+    has_not "$out" "atlas ask:"
 }
 
 test_nothing_is_told_where_it_is_not_wanted() {
