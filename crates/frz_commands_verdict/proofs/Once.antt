@@ -26,7 +26,7 @@ use Rattle.frz_atlas_prelude.proofs.Lemmas.{AllFound, all_exact, all_found, back
 use Rattle.frz_commands_premises.specs.declared.line.Line.{Line}
 use Rattle.frz_commands_premises.specs.declared.line.Line.TheVariants.{Believed}
 use Rattle.frz_commands_premises.specs.LineTexts.{line_text}
-use Rattle.frz_commands_premises.specs.PremiseLines.{behind_lines, belief_among, text_link_of}
+use Rattle.frz_commands_premises.specs.PremiseLines.{behind_lines, belief_among, text_link_of, links_in}
 use Rattle.frz_commands_verdict.specs.declared.verdict.Verdict.{Verdict}
 use Rattle.frz_commands_verdict.specs.declared.verdict.Verdict.TheVariants.{MatesWithin, Wins, Draw, DoesNotLose, NotShown}
 use Rattle.frz_commands_verdict.specs.Answers.{FindsTables, IsVerdictAt, RefusesTable, answer_over, fault_line, found, own_line, refused}

@@ -11,9 +11,10 @@ use Rattle.frz_prelude.specs.Positions.{IsPlaced}
 use Rattle.frz_prelude.specs.declared.refused.Refused.{Refused}
 use Rattle.frz_backs.specs.BackTable.{BackTable}
 use Rattle.frz_backs.specs.Loaded.{link_loaded}
-use Rattle.frz_premises.specs.Saying.{counts_wins}
 use Rattle.frz_commands_verdict.specs.declared.verdict.Verdict.{Verdict}
-use Rattle.frz_commands_verdict.specs.Verdicts.{verdict_at, verdict_by}
+use Rattle.frz_backs.specs.declared.counts.Counts.{Counts}
+use Rattle.frz_backs.specs.Links.{Link}
+use Rattle.frz_commands_verdict.specs.Verdicts.{code_at, counts_through, verdict_at, verdict_by}
 
 -- a number that was found for a position is its number in the set
 pub placed_at : (set groups : List GroupLine) (p : Board) (number : ℕ) → set ≡ groups

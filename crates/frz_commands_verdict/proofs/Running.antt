@@ -29,7 +29,7 @@ use Rattle.frz_atlas_prelude.specs.Names.{has_twice}
 use Rattle.frz_atlas_prelude.specs.Tables.{AreTablesIn}
 use Rattle.frz_atlas_prelude.proofs.Lemmas.{AnswersAt, MayEndAt, as_many_as_names, ended_at, judged_exact, place_below}
 use Rattle.frz_commands_premises.specs.declared.line.Line.{Line}
-use Rattle.frz_commands_premises.specs.PremiseLines.{behind_lines, text_link_of}
+use Rattle.frz_commands_premises.specs.PremiseLines.{behind_lines, text_link_of, links_in}
 use Rattle.frz_commands_verdict.specs.declared.finding.Told.{Told}
 use Rattle.frz_commands_verdict.specs.declared.verdict.Verdict.{Verdict}
 use Rattle.frz_commands_verdict.specs.Answers.{answer_over, fault_line, found, refused, verdict_costs}
