@@ -2,19 +2,20 @@
 
 from __future__ import annotations
 
-from collections import deque
-from collections.abc import Callable
+from collections import defaultdict, deque
 from typing import Optional
 
 from lib.chess import LEAPS
 from proving.board import FORWARD, PAWN_HITS, Position
 from proving.planes import BESIDE, SIDES, WHITE, union
-from proving.sketch import Sketch
+from proving.sketch import Reached, Sketch
 from proving.slices import Book, Slice, bit_of, key_of
+from proving.tables import used
 
 WORTH = {"Q": 9.0, "R": 5.0, "B": 3.0, "N": 3.0, "P": 1.0}
 EVEN, POINT = 400, 25  # the price of an equal slice, and of a pawn
 LEAST, MOST = 100, 1500
+MOST_SLICES = 60_000
 MOST_OPENED = 60  # families at a time
 NEARLY = 50  # what is so much less dear than the dearest waits
 AT_ONCE, FEW = 200, 4  # slices of a family; the latter with several queens and rooks
@@ -23,8 +24,8 @@ AT_ONCE, FEW = 200, 4  # slices of a family; the latter with several queens and 
 class Hunt:
     """Looks for a win of the side from the position."""
 
-    def __init__(self, position: Position, own: str, most: int):
-        self.book, self.own, self.most = Book(), SIDES.index(own), most
+    def __init__(self, position: Position, own: str):
+        self.book, self.own = Book(), SIDES.index(own)
         self.sketch = Sketch(self.book, self.own)
         self.side, self.bit = SIDES.index(position.turn), 1 << bit_of(position)
         self.root = self.book.get(key_of(position))
@@ -58,7 +59,7 @@ class Hunt:
         if not self.root.win[self.side] & self.bit:
             return False
         reached = self.sketch.reached(self.root, self.side, self.bit)
-        closed = [piece for piece in reached if not piece.is_open]
+        closed = [piece for piece in reached.planes if not piece.is_open]
         dearest = max((worth(piece, self.own)[0] for piece in closed), default=0)
         names = set()
         for piece in closed:
@@ -68,13 +69,38 @@ class Hunt:
         self.reached = reached
         return None if closed else True
 
-    def run(self, left: Callable[[], bool], tell) -> Optional[bool]:
-        while self.opened <= self.most and left():
+    def run(self, until: float) -> Optional[bool]:
+        """Hunts until the processor seconds are used up, or slices take too much room."""
+        while used() < until and len(self.book.slices) < MOST_SLICES:
             came = self.step()
-            tell(self, came)
             if came is not None:
                 return came
         return None
+
+
+def strategy(hunt: Hunt) -> Reached:
+    """All positions of the soonest win, worked out anew over all that is open."""
+    for piece in hunt.book.slices.values():
+        piece.reset()
+    hunt.sketch = Sketch(hunt.book, hunt.own)
+    hunt.sketch.settle([piece for piece in hunt.book.slices.values() if piece.is_open])
+    return hunt.sketch.reached(hunt.root, hunt.side, hunt.bit)
+
+
+def favourites(reached: Reached) -> set[Slice]:
+    """Of each family the slices that the strategy used most, so that the next one needs fewer others."""
+    families: dict[tuple, list[tuple[int, Slice]]] = defaultdict(list)
+    for piece, (white, black) in reached.planes.items():
+        families[family(piece)].append((bin(white | black).count("1"), piece))
+    found = set()
+    for kept in families.values():
+        kept.sort(key=lambda item: -item[0])
+        left = sum(used_ for used_, _ in kept) / 2
+        for used_, piece in kept:
+            if left > 0:
+                found.add(piece)
+            left -= used_
+    return found
 
 
 def family(piece: Slice) -> tuple:

@@ -5,13 +5,24 @@ Nothing is proved by a sketch. It tells the search which moves win, and so which
 from __future__ import annotations
 
 from collections import defaultdict
-from collections.abc import Iterable
+from collections.abc import Iterable, Iterator
+from dataclasses import dataclass
 from typing import Optional
 
 from proving.planes import shifted, spread, union
 from proving.slices import Book, Slice
 
 EIGHT = [(file, rank) for file in (-1, 0, 1) for rank in (-1, 0, 1) if file or rank]
+
+
+@dataclass
+class Reached:
+    """Positions by slice and side to move, from which slice and by whose move each other was reached first, and all
+    ways from slice to slice."""
+
+    planes: dict[Slice, list[int]]
+    first: dict[Slice, tuple[Slice, int]]
+    ways: set[tuple[Slice, Slice]]
 
 
 class Sketch:
@@ -98,19 +109,25 @@ class Sketch:
             left &= ~(after.free[a] & mask)
         return left
 
-    def reached(self, root: Slice, side: int, plane: int) -> dict[Slice, list[int]]:
-        """All positions to which the attacker's soonest wins lead from these, by slice and side to move."""
-        found: dict[Slice, list[int]] = {root: [0, 0]}
+    def reached(self, root: Slice, side: int, plane: int, liked=frozenset()) -> Reached:
+        """All positions to which a strategy of the attacker leads from these; slices that are liked come first."""
+        found = Reached({root: [0, 0]}, {}, set())
         todo = [(root, side, plane)]
         while todo:
             piece, side, plane = todo.pop()
-            plane &= ~found.setdefault(piece, [0, 0])[side]
+            plane &= ~found.planes[piece][side]
             if not plane:
                 continue
-            found[piece][side] |= plane
+            found.planes[piece][side] |= plane
             if piece.is_open:
-                moves = self.best(piece, plane) if side == self.attacker else self.replies(piece, plane)
-                todo += [(after, 1 - side, to) for after, to in moves if to]
+                moves = self.best(piece, plane, liked or found.planes) if side == self.attacker else self.replies(piece, plane)
+                for after, to in moves:
+                    if to:
+                        found.planes.setdefault(after, [0, 0])
+                        if after is not piece:
+                            found.ways.add((piece, after))
+                            found.first.setdefault(after, (piece, side))
+                        todo.append((after, 1 - side, to))
         return found
 
     def replies(self, piece: Slice, plane: int):
@@ -122,21 +139,21 @@ class Sketch:
         for after, mask in piece.kings[d]:
             yield after, kings & mask & after.valid[a]
 
-    def best(self, piece: Slice, plane: int):
-        """One move of the attacker from each of these positions, to a win with a lower stamp."""
+    def best(self, piece: Slice, plane: int, known) -> Iterator[tuple[Slice, int]]:
+        """One move of the attacker from each of these positions, to a win with a lower stamp: into a slice that is
+        known where there is one, since that needs the fewest squares."""
         for stamp, layer in piece.layers[self.attacker].items():
-            for is_next in (True, False):
-                left = plane & layer
-                if left:
-                    for after, to, origin in self.ways(piece, left, stamp, is_next):
-                        plane &= ~origin
-                        yield after, to
+            left = plane & layer
+            for is_known in (True, False):
+                for after, to, origin in self.ways(piece, left, stamp, known if is_known else None) if left else ():
+                    left &= ~origin
+                    yield after, to
 
-    def ways(self, piece: Slice, left: int, stamp: int, is_next: bool):
-        """Moves to positions with the stamp just before this one, or with any lower one, each with where it begins."""
+    def ways(self, piece: Slice, left: int, stamp: int, known) -> Iterator[tuple[Slice, int, int]]:
+        """Moves to positions with a lower stamp, each with where it begins."""
         a = self.attacker
         for after, mask in piece.kings[a]:
-            goal = self.below(after, stamp, is_next) & mask
+            goal = self.below(after, stamp) & mask if known is None or after in known else 0
             for file, rank in EIGHT if goal else ():
                 to = shifted(a, left, file, rank) & goal
                 if to:
@@ -144,13 +161,12 @@ class Sketch:
                     left &= ~origin
                     yield after, to, origin
         for after, mask in piece.steps[a]:
-            to = left & mask & self.below(after, stamp, is_next)
-            if to:
-                left &= ~to
-                yield after, to, to
+            if known is None or after in known:
+                to = left & mask & self.below(after, stamp)
+                if to:
+                    left &= ~to
+                    yield after, to, to
 
-    def below(self, piece: Slice, stamp: int, is_next: bool) -> int:
-        layers = piece.layers[self.defender]
-        if is_next:
-            return layers.get(stamp - 1, 0)
-        return union(plane for since, plane in layers.items() if since < stamp)
+    def below(self, piece: Slice, stamp: int) -> int:
+        """Where the defender is to move and lost since before the stamp."""
+        return union(plane for since, plane in piece.layers[self.defender].items() if since < stamp)

@@ -78,7 +78,7 @@ class Book:
         return found
 
     def open(self, piece: Slice, frozen: Optional[int] = None) -> None:
-        """Finds the moves from the slice; a side whose pawns are frozen does not move them."""
+        """Finds the moves from the slice; a side that is frozen moves its king and its queens alone."""
         piece.is_open = True
         for side in (WHITE, BLACK):
             if not piece.valid[side]:
@@ -127,11 +127,10 @@ def steps(piece: Slice, side: int, is_frozen: bool = False) -> Iterator[tuple[Ke
     """The moves of the side's men beside its king: the key after each, and the plane in which no king is in the way."""
     board, target = piece.key
     for square, man in piece.men:
-        if man.isupper() != (side == WHITE):
+        if man.isupper() != (side == WHITE) or is_frozen and man not in "Qq":
             continue
         if man in "Pp":
-            if not is_frozen:
-                yield from pawn_steps(board, target, square, man, side)
+            yield from pawn_steps(board, target, square, man, side)
             continue
         kind = man.upper()
         lines = LINES[kind][square] if kind in LINES else [[to] for to in LEAPS[kind][square]]
