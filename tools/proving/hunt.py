@@ -10,7 +10,7 @@ from proving.board import FORWARD, PAWN_HITS, Position
 from proving.planes import BESIDE, SIDES, WHITE, union
 from proving.sketch import Reached, Sketch
 from proving.slices import Book, Slice, bit_of, key_of
-from proving.tables import used
+from proving.tables import OutOfTime, used
 
 WORTH = {"Q": 9.0, "R": 5.0, "B": 3.0, "N": 3.0, "P": 1.0}
 EVEN, POINT = 400, 25  # the price of an equal slice, and of a pawn
@@ -29,7 +29,8 @@ class Hunt:
         self.sketch = Sketch(self.book, self.own)
         self.side, self.bit = SIDES.index(position.turn), 1 << bit_of(position)
         self.root = self.book.get(key_of(position))
-        self.queens = count(self.root, "Qq"[self.own])
+        self.queens, self.their_queens = (count(self.root, man) for man in ("Qq"[self.own], "qQ"[self.own]))
+        self.is_wide = False
         self.opened = 0
         self.fresh: list[Slice] = []  # opened, and not yet settled
         self.open_family(self.root)
@@ -55,35 +56,56 @@ class Hunt:
         self.sketch.settle(self.fresh)
         self.fresh = []
         if not self.root.win[self.side] & self.bit:
-            self.sketch.guess(lambda piece: worth(piece, self.own))
+            self.sketch.guess(self.worth)
         if not self.root.win[self.side] & self.bit:
-            return False
+            return None if self.widen() else False
         reached = self.sketch.reached(self.root, self.side, self.bit)
         closed = [piece for piece in reached.planes if not piece.is_open]
-        dearest = max((worth(piece, self.own)[0] for piece in closed), default=0)
+        dearest = max((self.worth(piece)[0] for piece in closed), default=0)
         names = set()
         for piece in closed:
-            if not piece.is_open and worth(piece, self.own)[0] >= dearest - NEARLY and len(names) < MOST_OPENED:
+            if not piece.is_open and self.worth(piece)[0] >= dearest - NEARLY and len(names) < MOST_OPENED:
                 names.add(family(piece))
                 self.open_family(piece)
         self.reached = reached
         return None if closed else True
 
+    def widen(self) -> bool:
+        """Lets the opponent have new queens beside those of the side too; tells whether that was not allowed before."""
+        was_wide, self.is_wide = self.is_wide, True
+        return not was_wide
+
+    def worth(self, piece: Slice):
+        """What the closed slice is worth; nothing where the opponent has a new queen beside one of the side's."""
+        own = "Qq"[self.own] in piece.key[0]
+        if own and not self.is_wide and count(piece, "qQ"[self.own]) > self.their_queens:
+            return None
+        return worth(piece, self.own)
+
     def run(self, until: float) -> Optional[bool]:
         """Hunts until the processor seconds are used up, or slices take too much room."""
-        while used() < until and len(self.book.slices) < MOST_SLICES:
-            came = self.step()
-            if came is not None:
-                return came
+        self.sketch.until = until
+        try:
+            while used() < until and len(self.book.slices) < MOST_SLICES:
+                came = self.step()
+                if came is not None:
+                    return came
+        except OutOfTime:
+            self.begin_anew()
         return None
+
+    def begin_anew(self) -> None:
+        """Forgets all wins; the slices that are open stay open."""
+        for piece in self.book.slices.values():
+            piece.reset()
+        self.sketch = Sketch(self.book, self.own)
+        self.fresh = [piece for piece in self.book.slices.values() if piece.is_open]
 
 
 def strategy(hunt: Hunt) -> Reached:
     """All positions of the soonest win, worked out anew over all that is open."""
-    for piece in hunt.book.slices.values():
-        piece.reset()
-    hunt.sketch = Sketch(hunt.book, hunt.own)
-    hunt.sketch.settle([piece for piece in hunt.book.slices.values() if piece.is_open])
+    hunt.begin_anew()
+    hunt.sketch.settle(hunt.fresh)
     return hunt.sketch.reached(hunt.root, hunt.side, hunt.bit)
 
 

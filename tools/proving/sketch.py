@@ -9,10 +9,22 @@ from collections.abc import Iterable, Iterator
 from dataclasses import dataclass
 from typing import Optional
 
-from proving.planes import shifted, spread, union
+from proving.planes import ALL, shifted, spread, union
 from proving.slices import Book, Slice
+from proving.tables import OutOfTime, used
 
 EIGHT = [(file, rank) for file in (-1, 0, 1) for rank in (-1, 0, 1) if file or rank]
+
+
+def spread_back(piece: Slice, plane: int, mover: int, found: dict[Slice, int]) -> None:
+    """Adds the open positions from which a move of this side leads into the plane."""
+    for before, mask in piece.before[mover]:
+        if come := plane & mask & before.free[mover]:
+            found[before] = found.get(before, 0) | come
+    kings = spread(mover, plane)
+    for before, mask in piece.kings_before[mover]:
+        if come := (kings if mask == ALL else spread(mover, plane & mask)) & before.free[mover]:
+            found[before] = found.get(before, 0) | come
 
 
 @dataclass
@@ -31,6 +43,7 @@ class Sketch:
 
     def __init__(self, book: Book, attacker: int):
         self.book, self.attacker, self.defender = book, attacker, 1 - attacker
+        self.until = float("inf")  # processor seconds, as `used` counts them
         self.clock = 0  # the stamps below are those of wins that rest on nothing closed
         self.before_guesses: dict[Slice, tuple] = {}  # what slices had before the guesses
 
@@ -44,7 +57,7 @@ class Sketch:
                 coming[piece] |= after.win[d] & mask
             for after, mask in piece.kings[a]:
                 coming[piece] |= spread(a, after.win[d] & mask)
-        self.clock = self.go_on(self.clock, {}, {piece for piece in opened if piece.valid[d]}, coming)
+        self.clock = self.go_on(self.clock, {}, {piece: piece.free[d] for piece in opened}, coming)
 
     def guess(self, worth) -> None:
         """Goes on with what closed slices are worth: the plies, and the planes by side that count as won."""
@@ -52,24 +65,25 @@ class Sketch:
         for piece in self.book.slices.values():
             if not piece.is_open and (given := worth(piece)):
                 due[self.clock + given[0]][piece] = given[1]
-        self.go_on(self.clock, due, set(), defaultdict(int), self.before_guesses)
+        self.go_on(self.clock, due, {}, {}, self.before_guesses)
 
     def forget(self) -> None:
         for piece, kept in self.before_guesses.items():
             piece.win, piece.free, piece.layers = kept
         self.before_guesses = {}
 
-    def go_on(self, stamp: int, due: dict, dirty: set, coming: dict, kept: Optional[dict] = None) -> int:
-        """Spreads wins: those that are due at a stamp, those of the defender's slices that are dirty, and those that
-        come to the attacker's. Gives the stamp behind the last."""
+    def go_on(self, stamp: int, due: dict, doubtful: dict, coming: dict, kept: Optional[dict] = None) -> int:
+        """Spreads wins: those that are due at a stamp, those that may be lost for the defender, and those that come to
+        the attacker. Gives the stamp behind the last."""
         a, d = self.attacker, self.defender
-        while dirty or coming or due:
-            if not dirty and not coming:
+        while doubtful or coming or due:
+            self.look_at_clock()
+            if not doubtful and not coming:
                 stamp = max(stamp, min(due))
             new = [(piece, side, planes[side]) for piece, planes in due.pop(stamp, {}).items() for side in (0, 1)]
             new += [(piece, a, plane) for piece, plane in coming.items()]
-            new += [(piece, d, self.lost(piece)) for piece in dirty]
-            dirty, coming = set(), defaultdict(int)
+            new += [(piece, d, self.lost(piece, plane)) for piece, plane in doubtful.items()]
+            doubtful, coming = {}, {}
             for piece, side, plane in new:
                 plane &= piece.free[side]
                 if plane:
@@ -78,29 +92,15 @@ class Sketch:
                     piece.win[side] |= plane
                     piece.free[side] &= ~plane
                     piece.layers[side][stamp] = piece.layers[side].get(stamp, 0) | plane
-                    if side == d:
-                        self.push(piece, plane, coming)
-                    else:
-                        dirty.update(p for p, _ in piece.before[d] if p.free[d])
-                        dirty.update(p for p, _ in piece.kings_before[d] if p.free[d])
+                    spread_back(piece, plane, 1 - side, coming if side == d else doubtful)
             stamp += 1
         return stamp
 
-    def push(self, piece: Slice, plane: int, coming) -> None:
-        """The attacker's positions from which a move leads into these."""
-        a = self.attacker
-        for before, mask in piece.before[a]:
-            if found := plane & mask & before.free[a]:
-                coming[before] |= found
-        for before, mask in piece.kings_before[a]:
-            if before.free[a] and (found := plane & mask):
-                coming[before] |= spread(a, found)
-
-    def lost(self, piece: Slice) -> int:
-        """The defender's positions, not known as such yet, of which each move leads to a win of the attacker."""
+    def lost(self, piece: Slice, doubtful: int) -> int:
+        """The defender's positions among these of which each move leads to a win of the attacker."""
         a, d = self.attacker, self.defender
-        left, kings = piece.free[d] & ~piece.stale[d], 0
-        for after, mask in piece.kings[d]:
+        left, kings = doubtful & piece.free[d] & ~piece.stale[d], 0
+        for after, mask in piece.kings[d] if left else ():
             kings |= after.free[a] & mask
         left &= ~spread(d, kings)
         for after, mask in piece.steps[d]:
@@ -112,23 +112,26 @@ class Sketch:
     def reached(self, root: Slice, side: int, plane: int, liked=frozenset()) -> Reached:
         """All positions to which a strategy of the attacker leads from these; slices that are liked come first."""
         found = Reached({root: [0, 0]}, {}, set())
-        todo = [(root, side, plane)]
+        todo = {(root, side): plane}
         while todo:
-            piece, side, plane = todo.pop()
-            plane &= ~found.planes[piece][side]
-            if not plane:
-                continue
+            self.look_at_clock()
+            piece, side = next(iter(todo))
+            plane = todo.pop((piece, side)) & ~found.planes[piece][side]
             found.planes[piece][side] |= plane
-            if piece.is_open:
-                moves = self.best(piece, plane, liked or found.planes) if side == self.attacker else self.replies(piece, plane)
-                for after, to in moves:
-                    if to:
-                        found.planes.setdefault(after, [0, 0])
-                        if after is not piece:
-                            found.ways.add((piece, after))
-                            found.first.setdefault(after, (piece, side))
-                        todo.append((after, 1 - side, to))
+            if not plane or not piece.is_open:
+                continue
+            for after, to in self.best(piece, plane, liked) if side == self.attacker else self.replies(piece, plane):
+                if to:
+                    found.planes.setdefault(after, [0, 0])
+                    if after is not piece:
+                        found.ways.add((piece, after))
+                        found.first.setdefault(after, (piece, side))
+                    todo[after, 1 - side] = todo.get((after, 1 - side), 0) | to
         return found
+
+    def look_at_clock(self) -> None:
+        if used() > self.until:
+            raise OutOfTime
 
     def replies(self, piece: Slice, plane: int):
         """All moves of the defender from these positions."""
@@ -139,21 +142,21 @@ class Sketch:
         for after, mask in piece.kings[d]:
             yield after, kings & mask & after.valid[a]
 
-    def best(self, piece: Slice, plane: int, known) -> Iterator[tuple[Slice, int]]:
+    def best(self, piece: Slice, plane: int, liked) -> Iterator[tuple[Slice, int]]:
         """One move of the attacker from each of these positions, to a win with a lower stamp: into a slice that is
-        known where there is one, since that needs the fewest squares."""
+        liked where there is one, else to the stamp just before, else to any."""
         for stamp, layer in piece.layers[self.attacker].items():
             left = plane & layer
-            for is_known in (True, False):
-                for after, to, origin in self.ways(piece, left, stamp, known if is_known else None) if left else ():
+            for is_next, among in ((False, liked), (True, None), (False, None)):
+                for after, to, origin in self.ways(piece, left, stamp, is_next, among) if left and among != frozenset() else ():
                     left &= ~origin
                     yield after, to
 
-    def ways(self, piece: Slice, left: int, stamp: int, known) -> Iterator[tuple[Slice, int, int]]:
+    def ways(self, piece: Slice, left: int, stamp: int, is_next: bool, among) -> Iterator[tuple[Slice, int, int]]:
         """Moves to positions with a lower stamp, each with where it begins."""
         a = self.attacker
         for after, mask in piece.kings[a]:
-            goal = self.below(after, stamp) & mask if known is None or after in known else 0
+            goal = self.below(after, stamp, is_next) & mask if among is None or after in among else 0
             for file, rank in EIGHT if goal else ():
                 to = shifted(a, left, file, rank) & goal
                 if to:
@@ -161,12 +164,15 @@ class Sketch:
                     left &= ~origin
                     yield after, to, origin
         for after, mask in piece.steps[a]:
-            if known is None or after in known:
-                to = left & mask & self.below(after, stamp)
+            if left and (among is None or after in among):
+                to = left & mask & self.below(after, stamp, is_next)
                 if to:
                     left &= ~to
                     yield after, to, to
 
-    def below(self, piece: Slice, stamp: int) -> int:
-        """Where the defender is to move and lost since before the stamp."""
-        return union(plane for since, plane in piece.layers[self.defender].items() if since < stamp)
+    def below(self, piece: Slice, stamp: int, is_next: bool) -> int:
+        """Where the defender is to move and lost since the stamp before this, or since any earlier."""
+        layers = piece.layers[self.defender]
+        if is_next:
+            return layers.get(stamp - 1, 0)
+        return union(plane for since, plane in layers.items() if since < stamp)
