@@ -5,7 +5,6 @@ from __future__ import annotations
 from collections import defaultdict, deque
 from typing import Optional
 
-from lib.chess import LEAPS
 from proving.board import FORWARD, PAWN_HITS, Position
 from proving.planes import BESIDE, SIDES, WHITE, union
 from proving.sketch import Reached, Sketch

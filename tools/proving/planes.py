@@ -6,7 +6,7 @@ from __future__ import annotations
 from functools import lru_cache
 
 from lib.chess import LEAPS, LINES
-from proving.board import PAWN_HITS, man_of
+from proving.board import PAWN_HITS
 
 WHITE, BLACK = 0, 1
 SIDES = "wb"
@@ -105,10 +105,6 @@ def reach(board: str, line) -> int:
         if board[square] != ".":
             return place
     return len(line)
-
-
-def men_named(side: int, kinds: str) -> str:
-    return "".join(man_of(SIDES[side], kind) for kind in kinds)
 
 
 def squares_of(side: int, plane: int) -> set[int]:
