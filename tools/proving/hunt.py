@@ -61,9 +61,10 @@ class Hunt:
         reached = self.sketch.reached(self.root, self.side, self.bit)
         closed = [piece for piece in reached.planes if not piece.is_open]
         dearest = max((self.worth(piece)[0] for piece in closed), default=0)
+        is_dear = lambda piece: self.worth(piece)[0] >= dearest - NEARLY
         names = set()
         for piece in closed:
-            if not piece.is_open and self.worth(piece)[0] >= dearest - NEARLY and len(names) < MOST_OPENED:
+            if not piece.is_open and len(names) < MOST_OPENED and (is_dear(piece) or has_pawns_alone(piece)):
                 names.add(family(piece))
                 self.open_family(piece)
         self.reached = reached
@@ -75,11 +76,17 @@ class Hunt:
         return not was_wide
 
     def worth(self, piece: Slice):
-        """What the closed slice is worth; nothing where the opponent has a new queen beside one of the side's."""
-        own = "Qq"[self.own] in piece.key[0]
-        if own and not self.is_wide and count(piece, "qQ"[self.own]) > self.their_queens:
+        """What the closed slice is worth; of what is doubtful nothing at first."""
+        if not self.is_wide and self.is_doubtful(piece):
             return None
         return worth(piece, self.own)
+
+    def is_doubtful(self, piece: Slice) -> bool:
+        """Has the side a new man who is no queen, or the opponent a new queen beside one of the side's?"""
+        board = piece.key[0]
+        if any(board.count(man) > self.root.key[0].count(man) for man in ("RBN", "rbn")[self.own]):
+            return True
+        return "Qq"[self.own] in board and board.count("qQ"[self.own]) > self.their_queens
 
     def run(self, until: float) -> Optional[bool]:
         """Hunts until the processor seconds are used up, or slices take too much room."""
@@ -130,6 +137,10 @@ def family(piece: Slice) -> tuple:
         pawns = tuple((s, m) for s, m in piece.men if m in "Pp")
         piece.kept = [(pawns, "".join(sorted(m for _, m in piece.men if m not in "Pp"))), None]
     return piece.kept[0]
+
+
+def has_pawns_alone(piece: Slice) -> bool:
+    return all(man in "Pp" for _, man in piece.men)
 
 
 def count(piece: Slice, man: str) -> int:
