@@ -13,6 +13,7 @@ from proving.mend import first_cell
 from proving.proof import Budget, Programs, Status
 from proving.row import Row, Spot
 from proving.searching import Search, verdict
+from proving.seeds import Seeds
 from proving.state import load, save
 from proving.tables import OutOfTime, Workshop
 from proving.wins import WinSearch
@@ -32,6 +33,7 @@ class Question:
     claim: str
     folder: str
     search: Search
+    seeds: Optional[Seeds] = None  # of a win that is searched from the beginning
     status: Status = Status.OPEN
     is_over: bool = False  # nothing more is found
 
@@ -42,6 +44,9 @@ class Question:
         self.search.depth = 0
         self.search.paths.setdefault(position, ())
         try:
+            if self.seeds is not None and self.seeds.try_out() is Status.PROVED:
+                self.status, self.is_over = Status.PROVED, True
+                return self.status
             self.search.settle(row.cells[-1].name, position)
             self.is_over = True
         except OutOfTime:
@@ -61,7 +66,8 @@ def ask(fen: str, own: str, claim: str, programs: Programs, folder: str, budget:
         row.insert(0, first_cell(read_fen(fen), own, min(FIRST_NUMBERS[claim], budget.numbers), row.new_name()))
     search = SEARCHES[claim](row, budget.numbers, budget.tables, tell)
     search.after_round = lambda: save(row, fen, folder)
-    return Question(fen, own, claim, folder, search)
+    seeds = Seeds(read_fen(fen), row, budget.numbers, budget.tables, tell) if claim == "win" and kept is None else None
+    return Question(fen, own, claim, folder, search, seeds)
 
 
 def proves(question: Question) -> Optional[tuple[str, str]]:
