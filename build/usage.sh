@@ -123,7 +123,7 @@ kind_of() {
         FREEZER1) echo former ;;
         FREEZER2) echo plain ;;
         FREEZERC) echo chained ;;
-        FREEZERA) echo leaning ;;
+        FREEZERB) echo leaning ;;
         *) echo text ;;
     esac
 }
@@ -144,7 +144,6 @@ hint_of_table() {
         leaning\ freezer\ *\ BACK) echo "a table of atlas build: build the text by atlas build over it" ;;
         leaning\ freezer\ *) hint_of_other "atlas build" atlas "${command#chain}" ;;
         plain\ freezer\ chain*\ TABLE) hint_of_other "freezer build" freezer "${command#chain}" ;;
-        plain\ atlas\ *\ TABLE) hint_of_other "freezer build" freezer "$command" ;;
     esac
 }
 

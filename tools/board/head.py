@@ -5,7 +5,7 @@ import os
 from .groups import fast_men
 
 PLAIN, CHAINED, LEANING = "plain", "chained", "leaning"
-KINDS = {b"FREEZER2": PLAIN, b"FREEZERC": CHAINED, b"FREEZERA": LEANING}
+KINDS = {b"FREEZER2": PLAIN, b"FREEZERC": CHAINED, b"FREEZERB": LEANING}
 LONGEST_TEXT = 65_536
 
 

@@ -6,7 +6,7 @@ from collections import namedtuple
 from lib.game import SIDES
 from lib.rules import LONGEST_TEXT, Refused, read_rules, size_of
 
-MAGIC, CHAINED, LEANING = b"FREEZER2", b"FREEZERC", b"FREEZERA"
+MAGIC, CHAINED, LEANING = b"FREEZER2", b"FREEZERC", b"FREEZERB"
 HEAD = 16
 
 Table = namedtuple("Table", "text rules codes")

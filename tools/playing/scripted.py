@@ -32,7 +32,7 @@ def see_session(folder: str, checks: Checks):
     """All of the session."""
     path = program(folder, {**ANSWERS, **FURTHER})
     programs = {"freezer": path, "atlas": path}
-    over = table_file(folder, "over.t", b"FREEZERA", TEXT)
+    over = table_file(folder, "over.t", b"FREEZERB", TEXT)
     back = table_file(folder, "back.t", b"FREEZER2", BACK)
     with Engine(programs, over, back) as engine:
         see_greeting(engine, checks)
