@@ -18,7 +18,6 @@ use frz_commands_why::run_why;
 use frz_prelude::tell;
 use frz_steps::Steps;
 use frz_store::{DiskStore, InputSource, OutputSink, Sink, Source, Store};
-use frz_table::FileKind;
 use std::alloc::{AllocError, Global};
 use std::env;
 use std::io::{self, ErrorKind};
@@ -64,7 +63,7 @@ fn run_command<S: Store, I: Source, O: Sink, L: Ledger>(
         "premises" => run_premises(alloc, rest, store, out, steps),
         "verdict" => run_verdict(alloc, rest, store, out, steps),
         "why" => run_why(alloc, rest, store, out, steps),
-        "query" => tell(query_kind(alloc, FileKind::Atlas, rest, store), out),
+        "query" => tell(query_kind(alloc, None, rest, store), out),
         _ => refuse(Refusal::NoCommand, out),
     }
 }

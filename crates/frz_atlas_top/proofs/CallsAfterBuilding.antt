@@ -9,27 +9,27 @@ use Rattle.frz_sets.specs.Sets.{size_of}
 use Rattle.frz_store.specs.Bytes.{AreBytes, HoldsBytes}
 use Rattle.frz_store.specs.Files.{Files, put}
 use Rattle.frz_store.proofs.Lemmas.{put-off, put-same, put_bytes}
-use Rattle.frz_table.specs.declared.kind.FileKind.TheVariants.{Atlas}
-use Rattle.frz_table.specs.Layout.{magic_of}
-use Rattle.frz_table.specs.Opening.{Contents, opened, table_format}
+use Rattle.frz_table.specs.Layout.{kind_by, magic_of}
+use Rattle.frz_table.specs.Opening.{Contents, opened, own_format}
 use Rattle.frz_table.proofs.Lemmas.{file_bytes, magic_bytes}
 use Rattle.frz_index.specs.Members.{Member}
 use Rattle.frz_check.specs.KeptTables.{KeepsTables}
-use Rattle.frz_commands_atlas.specs.Behind.{backs_in}
-use Rattle.frz_backs.specs.Values.{atlas_value}
+use Rattle.frz_commands_atlas.specs.Behind.{backs_in, leans}
+use Rattle.frz_commands_atlas.specs.FileOver.{leans_on}
+use Rattle.frz_backs.specs.Links.{value_over}
 use Rattle.frz_commands_ask.specs.Meaning.{TellsBounds}
 use Rattle.frz_answer.specs.declared.status.Status.{Status}
 use Rattle.frz_answer.specs.declared.status.Status.TheVariants.{Success}
 use Rattle.frz_answer.specs.Answers.{Answer}
 use Rattle.frz_answer.specs.Jobs.{Job}
 use Rattle.frz_answer.specs.Words.{taking, unless}
-use Rattle.frz_commands_atlas.specs.Names.{build_names_of, has_twice, table_names_of}
+use Rattle.frz_commands_atlas.specs.Names.{build_names_of, file_names_of, has_twice}
 use Rattle.frz_commands_atlas.specs.Building as builds
 use Rattle.frz_commands_atlas.specs.Building.{MakesAtlas, MeansBuild, building_at}
 use Rattle.frz_commands_atlas.specs.CheckMeans.{HoldsAtlas, MeansCheck, checking_at}
 use Rattle.frz_atlas_top.specs.Calls.{build, check, query, Succeeds, TellsBoundsOver, TellsSolvedOver}
 use Rattle.frz_atlas_top.specs.Commands.{job_of}
-use Rattle.frz_commands_atlas.proofs.Lemmas.{build_lawful, check_lawful, exact_atlas}
+use Rattle.frz_commands_atlas.proofs.Lemmas.{build_lawful, built_leans, built_own, check_lawful, exact_atlas}
 use Rattle.frz_atlas_top.proofs.CallsInTurn.{check_headline, of_names, of_words, query_tells_bounds, query_tells_kept, these_names}
 
 first_false : (b c : Bool) → (b || c) ≡ false → b ≡ false
@@ -51,13 +51,13 @@ the_rest : (rules table : List ℕ) (behind : List (List ℕ))
     (names : List ℕ × (List ℕ × List (List ℕ)))
     → build_names_of (rules ∷ table ∷ behind) ≡ Some names
     → (names ≡ (rules, (table, behind)))
-    × (table_names_of (table ∷ behind) ≡ Some (table, behind))
-the_rest rules table behind names e = by_names (table_names_of (table ∷ behind)) refl e
+    × (file_names_of (table ∷ behind) ≡ Some (table, behind))
+the_rest rules table behind names e = by_names (file_names_of (table ∷ behind)) refl e
   where
-    by_names : (x : Option (List ℕ × List (List ℕ))) → table_names_of (table ∷ behind) ≡ x
+    by_names : (x : Option (List ℕ × List (List ℕ))) → file_names_of (table ∷ behind) ≡ x
         → option_map (λ (n : List ℕ × List (List ℕ)). (rules, n)) x ≡ Some names
         → (names ≡ (rules, (table, behind)))
-        × (table_names_of (table ∷ behind) ≡ Some (table, behind))
+        × (file_names_of (table ∷ behind) ≡ Some (table, behind))
     by_names None is e = cc
     by_names (Some rest) is e =
         let same : rest ≡ (table, behind) = these_names table behind rest is in
@@ -97,7 +97,7 @@ module _ (rules table : List ℕ) (behind : List (List ℕ)) (files : Files) (a 
 
   -- no two of the words are the same, and the call makes the table
   built_atlas_made : (has_twice (rules ∷ names) ≡ false)
-      × (table_names_of names ≡ Some (table, behind))
+      × (file_names_of names ≡ Some (table, behind))
       × MakesAtlas rules table behind files a
   built_atlas_made =
       let words : List (List ℕ) = rules ∷ names in
@@ -149,7 +149,9 @@ module _ (rules table : List ℕ) (behind : List (List ℕ)) (files : Files) (a 
         text = makes_built_atlas.text;
         rules = makes_built_atlas.lines;
         accepted = makes_built_atlas.accepted;
-        one_file = makes_built_atlas.one_file;
+        one_file =
+            built_own makes_built_atlas.text makes_built_atlas.lines (backs_in makes_built_atlas.tables)
+            makes_built_atlas.bytes makes_built_atlas.accepted makes_built_atlas.one_file;
       }
 
   bytes_after : HoldsBytes a.files
@@ -158,10 +160,11 @@ module _ (rules table : List ℕ) (behind : List (List ℕ)) (files : Files) (a 
       subst (λ (o : Option (List ℕ)). IfSome o AreBytes) makes_built_atlas.there
       (built.bytes rules) in
       let file = makes_built_atlas.one_file in
+      let kind = kind_by (leans_on (backs_in makes_built_atlas.tables)) in
       let file_are : AreBytes makes_built_atlas.bytes = subst AreBytes (sym file.whole)
-      (file_bytes (magic_of Atlas) makes_built_atlas.text (size_of makes_built_atlas.lines.groups)
+      (file_bytes (magic_of kind) makes_built_atlas.text (size_of makes_built_atlas.lines.groups)
       file.white file.black
-      (magic_bytes Atlas) text_are) in
+      (magic_bytes kind) text_are) in
       subst HoldsBytes (sym files_after_build)
       (put_bytes files table makes_built_atlas.bytes built.bytes file_are)
 
@@ -170,7 +173,7 @@ module _ (rules table : List ℕ) (behind : List (List ℕ)) (files : Files) (a 
   checked_after input b answer =
       let job : List ℕ × List (List ℕ) → Job = λ n. unless (has_twice names)
       (checking_at n.0 n.1) in
-      let meant : (taking job (table_names_of names)).means a.files input b =
+      let meant : (taking job (file_names_of names)).means a.files input b =
       (check_lawful (table ∷ behind)).means a.files input b bytes_after answer in
       let of_some : (unless (has_twice names) (checking_at table behind)).means a.files input b =
       subst (λ (o : Option (List ℕ × List (List ℕ))). (taking job o).means a.files input b)
@@ -202,12 +205,19 @@ module _ (rules table : List ℕ) (behind : List (List ℕ)) (files : Files) (a 
       let asked = query_tells_kept table fen a.files b h in
       let kept = asked.2 in
       let same_bytes : made.bytes ≡ kept.bytes = some_same (sym made.there ∙ kept.open_file.there) in
-      let opens : opened (table_format Atlas) (Some kept.bytes) ≡ Ok made.contents =
-      ap (λ (l : List ℕ). opened (table_format Atlas) (Some l)) (sym same_bytes) ∙ made.opens in
+      let opens : opened own_format (Some kept.bytes) ≡ Ok made.contents =
+      ap (λ (l : List ℕ). opened own_format (Some l)) (sym same_bytes) ∙ made.opens in
       let same : made.contents ≡ kept.contents = ok_same (sym opens ∙ kept.open_file.opens) in
-      let value = atlas_value made.contents.rules (backs_in made.tables) in
+      let backs = backs_in made.tables in
+      let value = value_over (leans_on backs) made.contents.rules backs in
+      let leaning : leans made.bytes ≡ leans_on backs =
+      built_leans makes_built_atlas.text makes_built_atlas.lines backs makes_built_atlas.bytes
+      makes_built_atlas.accepted makes_built_atlas.one_file in
+      let judged : KeepsTables value made.contents made.bytes =
+      subst (λ (b : Bool). KeepsTables (value_over b made.contents.rules backs) made.contents made.bytes)
+      leaning made.judged in
       let tables : KeepsTables value made.contents kept.bytes =
-      subst (λ (l : List ℕ). KeepsTables value made.contents l) same_bytes made.judged in
+      subst (λ (l : List ℕ). KeepsTables value made.contents l) same_bytes judged in
       record {
         makes = makes_built_atlas;
         p = asked.0;

@@ -7,10 +7,9 @@ use Rattle.frz_fen.specs.Reading.{fen_of}
 use Rattle.frz_index.specs.Members.{Member}
 use Rattle.frz_store.specs.Bytes.{HoldsBytes}
 use Rattle.frz_store.specs.Files.{Files}
-use Rattle.frz_table.specs.declared.kind.FileKind.TheVariants.{Atlas}
 use Rattle.frz_table.specs.Opening.{Contents}
-use Rattle.frz_backs.specs.Links.{backs_of}
-use Rattle.frz_backs.specs.Values.{atlas_value}
+use Rattle.frz_backs.specs.Links.{backs_of, value_over}
+use Rattle.frz_commands_atlas.specs.Behind.{leans}
 use Rattle.frz_answer.specs.declared.status.Status.{Status}
 use Rattle.frz_answer.specs.declared.status.Status.TheVariants.{Success, Words, Fen, Outside}
 use Rattle.frz_answer.specs.Statuses.{OneOf}
@@ -21,7 +20,7 @@ use Rattle.frz_commands_ask.specs.Meaning.{TellsBounds}
 use Rattle.frz_commands_ask.specs.Querying as queries
 use Rattle.frz_commands_ask.specs.Querying.{MeansQuery, TellsKept, querying_at}
 use Rattle.frz_commands_ask.proofs.Lemmas.{at_position, query_answered}
-use Rattle.frz_commands_atlas.specs.Names.{has_twice, table_names_of}
+use Rattle.frz_commands_atlas.specs.Names.{file_names_of, has_twice}
 use Rattle.frz_commands_atlas.specs.Limits.{MOST_BACKS}
 use Rattle.frz_commands_atlas.specs.AtlasHeadline.{AtlasHeadline}
 use Rattle.frz_commands_atlas.specs.CheckMeans as checks
@@ -34,13 +33,11 @@ use Rattle.frz_atlas_top.proofs.ExactTables.{exact_contents, exact_opens, exact_
 
 -- the names that words give are those words
 pub these_names : (table : List ℕ) (behind : List (List ℕ)) (names : List ℕ × List (List ℕ))
-    → table_names_of (table ∷ behind) ≡ Some names → names ≡ (table, behind)
-these_names table [] names e = cc
-these_names table (back ∷ backs) names e =
-    by_count (nat_lt MOST_BACKS (length (back ∷ backs))) e
+    → file_names_of (table ∷ behind) ≡ Some names → names ≡ (table, behind)
+these_names table behind names e = by_count (nat_lt MOST_BACKS (length behind)) e
   where
-    by_count : (many : Bool) → (if many then None else Some (table, back ∷ backs)) ≡ Some names
-        → names ≡ (table, back ∷ backs)
+    by_count : (many : Bool) → (if many then None else Some (table, behind)) ≡ Some names
+        → names ≡ (table, behind)
     by_count true e = cc
     by_count false e = cc
 
@@ -71,7 +68,7 @@ check_headline table behind files a h =
     let words : List (List ℕ) = table ∷ behind in
     let job : List ℕ × List (List ℕ) → Job = λ names. unless (has_twice words)
     (checking_at names.0 names.1) in
-    let taken = of_words files h.input a h.done job (table_names_of words) h.answer
+    let taken = of_words files h.input a h.done job (file_names_of words) h.answer
     ((check_lawful (table ∷ behind)).means files h.input a h.bytes h.answer) in
     let names = taken.0 in
     let differ = of_names files h.input a h.done (checking_at names.0 names.1) (has_twice words)
@@ -85,14 +82,14 @@ check_headline table behind files a h =
 -- what `query` with status 0 tells of the codes in the file
 pub query_tells_kept : (table fen : List ℕ) (files : Files) (b : Answer)
     → Succeeds (query table fen) files b
-    → (p : Board) × (fen_of fen ≡ Ok p) × TellsKept Atlas table p files b.text
+    → (p : Board) × (fen_of fen ≡ Ok p) × TellsKept None table p files b.text
 query_tells_kept table fen files b h =
-    let at = at_position files h.input b h.done (querying_at Atlas table) (fen_of fen) h.answer
+    let at = at_position files h.input b h.done (querying_at None table) (fen_of fen) h.answer
     ((query_lawful (table ∷ fen ∷ [])).means files h.input b h.bytes h.answer) in
-    let means : MeansQuery Atlas table at.0 files b = at.2 in (
+    let means : MeansQuery None table at.0 files b = at.2 in (
       at.0,
       at.1,
-      subst (λ (s : Status). queries.MeansStatus Atlas table at.0 files s b.text) h.done means.says,
+      subst (λ (s : Status). queries.MeansStatus None table at.0 files s b.text) h.done means.says,
     )
 
 -- over exact tables
@@ -105,8 +102,8 @@ module _ (table : List ℕ) (behind : List (List ℕ)) (files : Files) (are : Ho
       let kept = at.2 in
       let same = exact_contents table behind files exact kept.bytes kept.contents kept.open_file in
       let bounds : TellsBounds kept.contents.rules
-      (atlas_value kept.contents.rules (backs_of exact.links)) at.0 b.text =
-      kept.where_exact (atlas_value kept.contents.rules (backs_of exact.links))
+      (value_over (leans exact.bytes) kept.contents.rules (backs_of exact.links)) at.0 b.text =
+      kept.where_exact (value_over (leans exact.bytes) kept.contents.rules (backs_of exact.links))
       (exact_tables table behind files exact kept.bytes kept.contents kept.open_file) in
       record {
         exact = exact;
@@ -114,8 +111,8 @@ module _ (table : List ℕ) (behind : List (List ℕ)) (files : Files) (are : Ho
         read = at.1;
         inside = subst (λ (c : Contents). Member c.rules.groups at.0) (sym same) kept.inside;
         tells = subst
-            (λ (c : Contents). TellsBounds c.rules (atlas_value c.rules (backs_of exact.links)) at.0
-            b.text) (sym same) bounds;
+            (λ (c : Contents). TellsBounds c.rules
+            (value_over (leans exact.bytes) c.rules (backs_of exact.links)) at.0 b.text) (sym same) bounds;
       }
 
   pub queried_well : (input : List ℕ) → (job_of (query table fen)).answers files input b

@@ -6,9 +6,9 @@ use Rattle.frz_fen.specs.Reading.{fen_of}
 use Rattle.frz_index.specs.Members.{Member}
 use Rattle.frz_store.specs.Bytes.{HoldsBytes}
 use Rattle.frz_store.specs.Files.{Files}
-use Rattle.frz_commands_atlas.specs.Behind.{backs_in}
-use Rattle.frz_backs.specs.Links.{backs_of}
-use Rattle.frz_backs.specs.Values.{atlas_value}
+use Rattle.frz_commands_atlas.specs.Behind.{backs_in, leans}
+use Rattle.frz_commands_atlas.specs.FileOver.{leans_on}
+use Rattle.frz_backs.specs.Links.{backs_of, value_over}
 use Rattle.frz_answer.specs.declared.status.Status.TheVariants.{Success}
 use Rattle.frz_answer.specs.Answers.{Answer}
 use Rattle.frz_commands_ask.specs.Meaning.{TellsBounds}
@@ -34,17 +34,18 @@ pub record Succeeds (words : List (List ℕ)) (files : Files) (a : Answer) : Typ
   pub answer : (job_of words).answers files input a
   pub done : a.status ≡ Success
 
--- the tables behind are exact, each over those before it, and TABLE is exact over all of them. FEN
+-- the tables behind are exact, each over those before it, and TABLE is exact. FEN
 -- is a position of its set, and the text tells the bounds of both sides there, which say of chess
 -- what Means states, under the premise that the exits are true. Exits have the values of TABLE's
--- exit lines, and of the tables behind where these say nothing
+-- exit lines and, where it leans on the tables behind, of these where the lines say nothing
 pub record TellsBoundsOver (table : List ℕ) (behind : List (List ℕ)) (fen : List ℕ)
     (files : Files) (text : List ℕ) : Type 0 where
   pub exact : AtlasHeadline table behind files
   pub p : Board
   pub read : fen_of fen ≡ Ok p
   pub inside : Member exact.rules.groups p
-  pub tells : TellsBounds exact.rules (atlas_value exact.rules (backs_of exact.links)) p text
+  pub tells : TellsBounds exact.rules
+      (value_over (leans exact.bytes) exact.rules (backs_of exact.links)) p text
 
 -- `build` made TABLE of the text in RULES, over the tables in the BACKs. FEN is a position of the
 -- text's set, and what is told there are the bounds of both sides in the game of this text, which
@@ -56,4 +57,5 @@ pub record TellsSolvedOver (rules table : List ℕ) (behind : List (List ℕ)) (
   pub p : Board
   pub read : fen_of fen ≡ Ok p
   pub inside : Member makes.lines.groups p
-  pub tells : TellsBounds makes.lines (atlas_value makes.lines (backs_in makes.tables)) p text
+  pub tells : TellsBounds makes.lines
+      (value_over (leans_on (backs_in makes.tables)) makes.lines (backs_in makes.tables)) p text

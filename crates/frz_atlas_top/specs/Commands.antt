@@ -1,6 +1,5 @@
 -- What each command is to do: one line for each, whose job is defined in a module of its own.
 use Rattle.std.specs.Prelude.{ℕ, List, Option, Some, None}
-use Rattle.frz_table.specs.declared.kind.FileKind.TheVariants.{Atlas}
 use Rattle.frz_answer.specs.declared.words.Refusal.TheVariants.{NoCommand}
 use Rattle.frz_answer.specs.Jobs.{Job}
 use Rattle.frz_answer.specs.Words.{refusing}
@@ -24,7 +23,7 @@ use Rattle.frz_atlas_top.specs.Verbs.{verb_of}
 abbrev pub job_by : Option (Verb × List (List ℕ)) → Job
 job_by (Some (Build, words)) = build_words words
 job_by (Some (Check, words)) = check_words words
-job_by (Some (Query, words)) = querying_words Atlas words
+job_by (Some (Query, words)) = querying_words None words
 job_by (Some (Ask, words)) = ask_words words
 job_by (Some (Each, words)) = each_words words
 job_by (Some (Line, words)) = line_words words

@@ -22,7 +22,6 @@ use frz_prelude::tell;
 use frz_program::read_command;
 use frz_steps::Steps;
 use frz_store::{Sink, Source, Store};
-use frz_table::FileKind;
 use std::alloc::Global;
 use std::sync::ledger::Ledger;
 
@@ -46,7 +45,7 @@ fn run<S: Store, I: Source, O: Sink, L: Ledger>(
     match read_command(words) {
         Some((Verb::Build, rest)) => run_build(alloc, rest, store, out, steps),
         Some((Verb::Check, rest)) => run_check(alloc, rest, store, out, steps),
-        Some((Verb::Query, rest)) => tell(query_kind(alloc, FileKind::Atlas, rest, store), out),
+        Some((Verb::Query, rest)) => tell(query_kind(alloc, None, rest, store), out),
         Some((Verb::Ask, rest)) => run_ask(alloc, rest, store, input, out, steps),
         Some((Verb::Each, rest)) => run_each(alloc, rest, store, out, steps),
         Some((Verb::Line, rest)) => run_line(alloc, rest, store, out, steps),

@@ -5,14 +5,14 @@ use Rattle.frz_fen.specs.declared.fault.FenFault.{FenFault}
 use Rattle.frz_store.specs.Files.{Files}
 use Rattle.frz_table.specs.declared.fault.TableFault.{TableFault}
 use Rattle.frz_table.specs.declared.kind.FileKind.{FileKind}
-use Rattle.frz_table.specs.Opening.{Contents, opened, table_format}
+use Rattle.frz_table.specs.Opening.{Contents, opened, format_for}
 use Rattle.frz_answer.specs.declared.status.Status.{Status}
 use Rattle.frz_answer.specs.declared.status.Status.TheVariants.{Success, Fen, Table, Outside, Missing}
 use Rattle.frz_answer.specs.Statuses.{OneOf}
 use Rattle.frz_answer.specs.Answers.{Answer}
 use Rattle.frz_answer.specs.Jobs.{Job}
 use Rattle.frz_prelude.specs.Positions.{on_position}
-use Rattle.frz_prelude.specs.TableFiles.{OpensAsKind, TellsFaultOfKind}
+use Rattle.frz_commands_ask.specs.AskedFiles.{OpensAsked, TellsAskedFault}
 use Rattle.frz_commands_ask.specs.Querying.{MeansStatus, querying_at}
 
 module _ (files : Files) (input : List ℕ) (a : Answer) where
@@ -32,14 +32,14 @@ module _ (files : Files) (input : List ℕ) (a : Answer) where
       of_position (λ s. s ≡ Success → (p : Board) × (x ≡ Ok p) × (job p).means files input a)
       (λ e. cc) job x answer means (λ p is meant e. (p, is, meant)) done
 
-module _ {kind : FileKind} {table : List ℕ} {files : Files} {bytes : List ℕ} {contents : Contents}
-    (opens : OpensAsKind kind table files bytes contents) where
+module _ {kind : Option FileKind} {table : List ℕ} {files : Files} {bytes : List ℕ} {contents : Contents}
+    (opens : OpensAsked kind table files bytes contents) where
   -- of the file nothing is refused
-  pub never_refused : {text : List ℕ} → TellsFaultOfKind kind table files text → ⊥
+  pub never_refused : {text : List ℕ} → TellsAskedFault kind table files text → ⊥
   never_refused refused =
       let same : Some refused.bytes ≡ Some bytes = sym refused.there ∙ opens.there in
       let no : ◌≡◌ {A = Result Contents TableFault} (Err refused.fault) (Ok contents) =
-      sym refused.refused ∙ ap (opened (table_format kind)) same ∙ opens.opens in
+      sym refused.refused ∙ ap (opened (format_for kind)) same ∙ opens.opens in
       cc
 
   pub never_missing : files table ≡ None → ⊥

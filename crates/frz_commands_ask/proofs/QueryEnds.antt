@@ -8,7 +8,7 @@ use Rattle.frz_game.specs.Numbers.{is_member}
 use Rattle.frz_table.specs.declared.fault.TableFault.{TableFault}
 use Rattle.frz_table.specs.declared.kind.FileKind.{FileKind}
 use Rattle.frz_table.specs.declared.kind.FileKind.TheVariants.{Plain, Chained}
-use Rattle.frz_table.specs.Opening.{Contents, opened, table_format}
+use Rattle.frz_table.specs.Opening.{Contents, opened, format_for}
 use Rattle.frz_answer.specs.declared.status.Status.TheVariants.{Success, Table, Outside, Missing}
 use Rattle.frz_answer.specs.Statuses.{OneOf}
 use Rattle.frz_answer.specs.Answers.{SomeAnswer}
@@ -44,15 +44,15 @@ of_kept P why (Err fault) bytes p e outside refused =
     let same : refusals.Table fault ≡ why = cc in subst P same (refused fault)
 
 -- with a status of `query`
-own_refusal : (kind : FileKind) (p : Board) (held : Option (List ℕ)) (why : Refusal)
+own_refusal : (kind : Option FileKind) (p : Board) (held : Option (List ℕ)) (why : Refusal)
     → kept_of kind p held ≡ Err why
     → OneOf (status_of why) (Success ∷ Table ∷ Outside ∷ Missing ∷ [])
 own_refusal kind p held why e =
     of_kept (λ (w : Refusal). OneOf (status_of w) (Success ∷ Table ∷ Outside ∷ Missing ∷ [])) why
-    (opened (table_format kind) held) (unwrap_or held []) p e refl
+    (opened (format_for kind) held) (unwrap_or held []) p e refl
     (λ fault. table_own fault (Success ∷ Table ∷ Outside ∷ Missing ∷ []) refl refl)
 
-pub own_stop : (kind : FileKind) (p : Board) (held : Option (List ℕ)) (stop : Stop)
+pub own_stop : (kind : Option FileKind) (p : Board) (held : Option (List ℕ)) (stop : Stop)
     → Answers {A = KeptCodes} (Err stop) (kept_of kind p held)
     → (why : Refusal) → stop ≡ Refused why
     → OneOf (status_of why) (Success ∷ Table ∷ Outside ∷ Missing ∷ [])
@@ -65,7 +65,7 @@ text_said : (r : Result KeptCodes Refusal) (files : Files) → (answer_by r file
 text_said (Ok codes) files = λ e. cc
 text_said (Err why) files = refusal_said why
 
-some_kept : (kind : FileKind) (p : Board) (table : List ℕ) (files : Files)
+some_kept : (kind : Option FileKind) (p : Board) (table : List ℕ) (files : Files)
     → SomeAnswer (λ a. a ≡ answer_by (kept_of kind p (files table)) files)
 some_kept kind p table files = record {
   a = answer_by (kept_of kind p (files table)) files;
@@ -74,7 +74,7 @@ some_kept kind p table files = record {
 }
 
 -- where the codes were not read
-pub stopped_at : (kind : FileKind) (table : List ℕ) (p : Board) (stop : Stop) (files : Files)
+pub stopped_at : (kind : Option FileKind) (table : List ℕ) (p : Board) (stop : Stop) (files : Files)
     (input : List ℕ) (old new : World)
     → IsKept kind p table (Err stop) old.store new.store → new.steps ≤ old.steps
     → Agrees old files input
@@ -92,14 +92,14 @@ stopped_at kind table p (Fault fault) files input old new kept steps agrees = re
   costs = record { steps = omega (arith, steps); calls = kept.calls; asked = kept.asked };
 }
 
-querying_lawful : (kind : FileKind) (table : List ℕ) (p : Board)
+querying_lawful : (kind : Option FileKind) (table : List ℕ) (p : Board)
     → IsLawful (querying_at kind table p)
 querying_lawful kind table p = record {
   one = λ files input. one_answer (answer_by (kept_of kind p (files table)) files);
   means = λ files input a are h. query_means kind table p files a h;
 }
 
-querying_words_lawful : (kind : FileKind) (words : List (List ℕ))
+querying_words_lawful : (kind : Option FileKind) (words : List (List ℕ))
     → IsLawful (querying_words kind words)
 querying_words_lawful kind words =
     taking_lawful (λ (names : List ℕ × List ℕ). on_position (querying_at kind names.0)

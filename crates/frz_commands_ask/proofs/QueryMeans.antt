@@ -11,14 +11,15 @@ use Rattle.frz_arena.specs.Codes.{code_of}
 use Rattle.frz_game.specs.Numbers.{is_member}
 use Rattle.frz_table.specs.declared.fault.TableFault.{TableFault}
 use Rattle.frz_table.specs.declared.kind.FileKind.{FileKind}
-use Rattle.frz_table.specs.Opening.{Contents, opened, table_format}
+use Rattle.frz_table.specs.Opening.{Contents, opened, format_for}
 use Rattle.frz_table.proofs.Lemmas.{opened_missing}
 use Rattle.frz_check.proofs.Lemmas.{bound_kept}
 use Rattle.frz_answer.specs.Answers.{Answer}
 use Rattle.frz_bound_lines.specs.BoundLines.{side_name, bound_line, bounds_text, kept_line, kept_text}
 use Rattle.frz_prelude.specs.declared.refused.Refused.{Refused}
 use Rattle.frz_bound_lines.proofs.BoundLines.{kept_bound}
-use Rattle.frz_prelude.proofs.Lemmas.{refused_means}
+use Rattle.frz_prelude.proofs.Lemmas.{bytes_status}
+use Rattle.frz_prelude.specs.TableCauses.{table_line}
 use Rattle.frz_commands_ask.specs.declared.kept.KeptCodes.{KeptCodes}
 use Rattle.frz_commands_ask.specs.Kept.{kept_at, kept_by, kept_of, answer_by}
 use Rattle.frz_commands_ask.specs.Meaning.{TellsBounds}
@@ -48,13 +49,13 @@ tells_exact contents bytes p inside = λ value tables.
     (tells_bounds contents.rules value p white.bound black.bound inside
     (record { white_is = white.of; black_is = black.of }))
 
-module _ (kind : FileKind) (table : List ℕ) (p : Board) (files : Files) where
+module _ (kind : Option FileKind) (table : List ℕ) (p : Board) (files : Files) where
   means_so : (a : Answer) → a.files ≡ files → a.taken ≡ 0
       → MeansStatus kind table p files a.status a.text → MeansQuery kind table p files a
   means_so a same untaken says = record { same = same; untaken = untaken; says = says }
 
   by_member : (bytes : List ℕ) → files table ≡ Some bytes → (contents : Contents)
-      → opened (table_format kind) (Some bytes) ≡ Ok contents
+      → opened (format_for kind) (Some bytes) ≡ Ok contents
       → (inside : Bool) → is_member contents.rules.groups p ≡ inside
       → MeansQuery kind table p files (answer_by (kept_of kind p (Some bytes)) files)
   by_member bytes there contents opens true e =
@@ -88,7 +89,7 @@ module _ (kind : FileKind) (table : List ℕ) (p : Board) (files : Files) where
       }))
 
   by_opening : (bytes : List ℕ) → files table ≡ Some bytes → (x : Result Contents TableFault)
-      → opened (table_format kind) (Some bytes) ≡ x
+      → opened (format_for kind) (Some bytes) ≡ x
       → MeansQuery kind table p files (answer_by (kept_of kind p (Some bytes)) files)
   by_opening bytes there (Ok contents) e =
       by_member bytes there contents e (is_member contents.rules.groups p) refl
@@ -96,18 +97,19 @@ module _ (kind : FileKind) (table : List ℕ) (p : Board) (files : Files) where
       subst (λ (x : Result Contents TableFault). MeansQuery kind table p files
       (answer_by (kept_by x bytes p) files)) (sym e)
       (means_so _ refl refl
-      (refused_means kind table files (MeansStatus kind table p files) (λ text tells. tells) bytes
-      there fault e))
+      (subst (λ (s : Status). MeansStatus kind table p files s (table_line fault))
+      (sym (bytes_status (format_for kind) bytes fault e))
+      (record { bytes = bytes; there = there; fault = fault; refused = e; told = refl })))
 
   by_file : (held : Option (List ℕ)) → files table ≡ held
       → MeansQuery kind table p files (answer_by (kept_of kind p held) files)
   by_file None e =
       subst (λ (x : Result Contents TableFault). MeansQuery kind table p files
-      (answer_by (kept_by x [] p) files)) (sym (opened_missing (table_format kind)))
+      (answer_by (kept_by x [] p) files)) (sym (opened_missing (format_for kind)))
       (means_so _ refl refl e)
-  by_file (Some bytes) e = by_opening bytes e (opened (table_format kind) (Some bytes)) refl
+  by_file (Some bytes) e = by_opening bytes e (opened (format_for kind) (Some bytes)) refl
 
-pub query_means : (kind : FileKind) (table : List ℕ) (p : Board) (files : Files) (a : Answer)
+pub query_means : (kind : Option FileKind) (table : List ℕ) (p : Board) (files : Files) (a : Answer)
     → a ≡ answer_by (kept_of kind p (files table)) files
     → MeansQuery kind table p files a
 query_means kind table p files a e = subst (λ (x : Answer). MeansQuery kind table p files x) (sym e)

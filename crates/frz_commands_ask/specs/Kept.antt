@@ -12,7 +12,7 @@ use Rattle.frz_store.specs.Files.{Files}
 use Rattle.frz_store.specs.Told.{StoreTold}
 use Rattle.frz_table.specs.declared.fault.TableFault.{TableFault}
 use Rattle.frz_table.specs.declared.kind.FileKind.{FileKind}
-use Rattle.frz_table.specs.Opening.{Contents, contents_of, opened, opening_calls, table_format}
+use Rattle.frz_table.specs.Opening.{Contents, contents_of, opened, opening_calls, format_for}
 use Rattle.frz_table.specs.Possible.{held_text}
 use Rattle.frz_table.specs.Tables.{Table}
 use Rattle.frz_check.specs.Kept.{kept_codes}
@@ -48,8 +48,8 @@ kept_by (Err fault) bytes p = Err (refusals.Table fault)
 
 -- the codes of both sides at the position, where the held bytes are a table of this kind; or why
 -- there are none
-abbrev pub kept_of : FileKind → Board → Option (List ℕ) → Result KeptCodes Refused
-kept_of kind p held = kept_by (opened (table_format kind) held) (unwrap_or held []) p
+abbrev pub kept_of : Option FileKind → Board → Option (List ℕ) → Result KeptCodes Refused
+kept_of kind p held = kept_by (opened (format_for kind) held) (unwrap_or held []) p
 
 -- how often a file is read for the codes: once for each side, and never where there are none
 abbrev pub code_reads : Result KeptCodes Refused → ℕ
@@ -57,12 +57,12 @@ code_reads (Ok codes) = 2
 code_reads (Err why) = 0
 
 -- how many calls of the store find the codes in what a name holds
-abbrev pub keeping_calls : FileKind → Board → Option (List ℕ) → ℕ
+abbrev pub keeping_calls : Option FileKind → Board → Option (List ℕ) → ℕ
 keeping_calls kind p held =
-    opening_calls (table_format kind) held + code_reads (kept_of kind p held)
+    opening_calls (format_for kind) held + code_reads (kept_of kind p held)
 
 -- how many bytes are asked for: those that open what the name holds, and four for each code
-abbrev pub keeping_bytes : FileKind → Board → Option (List ℕ) → ℕ
+abbrev pub keeping_bytes : Option FileKind → Board → Option (List ℕ) → ℕ
 keeping_bytes kind p held = 16 + length (held_text held) + 4 * code_reads (kept_of kind p held)
 
 -- the lines of the codes, or the line that refuses
@@ -92,7 +92,7 @@ IsKeptIn table p told (Err (stops.Fault fault)) = ⊤
 
 -- the result is that of the name in some files of bytes: those that the store tells, if it tells.
 -- No more bytes and calls were spent than these files take
-pub record IsKept (kind : FileKind) (p : Board) (name : List ℕ) (result : Result KeptCodes Stop)
+pub record IsKept (kind : Option FileKind) (p : Board) (name : List ℕ) (result : Result KeptCodes Stop)
     (old new : StoreTold) : Type 0 where
   pub files : Files
   pub agrees : MayBeHeld old.files files

@@ -1,6 +1,6 @@
 -- What `query TABLE FEN` and `chainquery TABLE FEN` are to do, and what their answers mean. No file
 -- changes.
-use Rattle.std.specs.Prelude.{◌≡◌, ℕ, List, [], ◌∷◌, true, false, Some, None}
+use Rattle.std.specs.Prelude.{◌≡◌, ℕ, List, [], ◌∷◌, true, false, Option, Some, None}
 use Rattle.frz_board.specs.declared.man.Colour.TheVariants.{White, Black}
 use Rattle.frz_board.specs.Boards.{Board}
 use Rattle.frz_fen.specs.Reading.{fen_of}
@@ -18,7 +18,7 @@ use Rattle.frz_answer.specs.Jobs.{Job, Once, plain, WithinCosts}
 use Rattle.frz_answer.specs.Words.{taking, two_words_of}
 use Rattle.frz_bound_lines.specs.BoundLines.{kept_text}
 use Rattle.frz_prelude.specs.Positions.{on_position}
-use Rattle.frz_prelude.specs.TableFiles.{OpensAsKind, TellsFaultOfKind}
+use Rattle.frz_commands_ask.specs.AskedFiles.{OpensAsked, TellsAskedFault}
 use Rattle.frz_commands_ask.specs.Kept.{keeping_bytes, keeping_calls, kept_at, kept_of, answer_by}
 use Rattle.frz_commands_ask.specs.Meaning.{TellsBounds}
 
@@ -31,32 +31,32 @@ TellsWhereExact contents bytes p text = (value : Board → Value)
     → KeepsTables value contents bytes → TellsBounds contents.rules value p text
 
 -- the text tells the codes that the file holds at a position of its set
-pub record TellsKept (kind : FileKind) (table : List ℕ) (p : Board) (files : Files)
+pub record TellsKept (kind : Option FileKind) (table : List ℕ) (p : Board) (files : Files)
     (text : List ℕ) : Type 0 where
   pub bytes : List ℕ
   pub contents : Contents
-  pub open_file : OpensAsKind kind table files bytes contents
+  pub open_file : OpensAsked kind table files bytes contents
   pub inside : Member contents.rules.groups p
   pub told : text ≡ kept_text (kept_at White contents bytes p) (kept_at Black contents bytes p)
   pub where_exact : TellsWhereExact contents bytes p text
 
 -- the file opens as a table, and the position is not in its set
-pub record IsOutside (kind : FileKind) (table : List ℕ) (p : Board) (files : Files) : Type 0 where
+pub record IsOutside (kind : Option FileKind) (table : List ℕ) (p : Board) (files : Files) : Type 0 where
   pub bytes : List ℕ
   pub contents : Contents
-  pub open_file : OpensAsKind kind table files bytes contents
+  pub open_file : OpensAsked kind table files bytes contents
   pub outside : Member contents.rules.groups p → ⊥
 
 -- what an answer says, by its status
-abbrev pub MeansStatus : FileKind → List ℕ → Board → Files → Status → List ℕ → Type 0
+abbrev pub MeansStatus : Option FileKind → List ℕ → Board → Files → Status → List ℕ → Type 0
 MeansStatus kind table p files Success text = TellsKept kind table p files text
-MeansStatus kind table p files Table text = TellsFaultOfKind kind table files text
+MeansStatus kind table p files Table text = TellsAskedFault kind table files text
 MeansStatus kind table p files Outside text = IsOutside kind table p files
 MeansStatus kind table p files Missing text = files table ≡ None
 MeansStatus kind table p files status text = ⊥
 
 -- what an answer means: it changes no file and takes no input, and each status has its cause
-pub record MeansQuery (kind : FileKind) (table : List ℕ) (p : Board) (files : Files)
+pub record MeansQuery (kind : Option FileKind) (table : List ℕ) (p : Board) (files : Files)
     (a : Answer) : Type 0 where
   pub same : a.files ≡ files
   pub untaken : a.taken ≡ 0
@@ -65,7 +65,7 @@ pub record MeansQuery (kind : FileKind) (table : List ℕ) (p : Board) (files : 
 -- to query a table of this kind at a position. It costs no step, and the calls of the store and the
 -- bytes that open what is there; where the position is in its set, one call and four bytes more for
 -- each of the two codes
-abbrev pub querying_at : FileKind → List ℕ → Board → Job
+abbrev pub querying_at : Option FileKind → List ℕ → Board → Job
 querying_at kind table p = record (plain (Success ∷ Table ∷ Outside ∷ Missing ∷ [])
     (λ files input a. a ≡ answer_by (kept_of kind p (files table)) files)) {
       means = λ files input a. MeansQuery kind table p files a;
@@ -78,14 +78,14 @@ querying_at kind table p = record (plain (Success ∷ Table ∷ Outside ∷ Miss
     }
 
 -- the words TABLE FEN, for a table of this kind
-abbrev pub querying_words : FileKind → List (List ℕ) → Job
+abbrev pub querying_words : Option FileKind → List (List ℕ) → Job
 querying_words kind words =
     taking (λ names. on_position (querying_at kind names.0) (fen_of names.1)) (two_words_of words)
 
 -- query TABLE FEN
 abbrev pub query_words : List (List ℕ) → Job
-query_words words = querying_words Plain words
+query_words words = querying_words (Some Plain) words
 
 -- chainquery TABLE FEN
 abbrev pub chainquery_words : List (List ℕ) → Job
-chainquery_words words = querying_words Chained words
+chainquery_words words = querying_words (Some Chained) words

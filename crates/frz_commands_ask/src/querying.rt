@@ -12,11 +12,11 @@ use frz_store::Store;
 use frz_table::FileKind;
 use std::alloc::Global;
 
-/// Queries a table file of this kind; `words` are the two words after the command's name, TABLE
-/// FEN.
+/// Queries a table file of this kind, or with `None` of the kind as which it begins; `words` are the
+/// two words after the command's name, TABLE FEN.
 pub fn query_kind<S: Store>(
     alloc: Global,
-    kind: FileKind,
+    kind: Option<FileKind>,
     words: &[String],
     store: &mut S,
 ) -> Result<Reply, Stop>
@@ -38,7 +38,7 @@ pub fn query<S: Store>(alloc: Global, words: &[String], store: &mut S) -> Result
     ensures store_unused { (query_words (map string_bytes words.now)).needs.store ≡ false
         → store.new ≡ store.old }
 {
-    query_kind(alloc, FileKind::Plain, words, store)
+    query_kind(alloc, Some(FileKind::Plain), words, store)
 }
 
 /// The command `chainquery TABLE FEN`, on a table over a back table; `words` are TABLE and FEN. The
@@ -49,5 +49,5 @@ pub fn chainquery<S: Store>(alloc: Global, words: &[String], store: &mut S) -> R
     ensures store_unused { (chainquery_words (map string_bytes words.now)).needs.store ≡ false
         → store.new ≡ store.old }
 {
-    query_kind(alloc, FileKind::Chained, words, store)
+    query_kind(alloc, Some(FileKind::Chained), words, store)
 }

@@ -4,3 +4,5 @@ pub use Rattle.frz_commands_atlas.proofs.EachOnce.{each_lawful}
 pub use Rattle.frz_commands_atlas.proofs.Lawful.{build_lawful, check_lawful}
 pub use Rattle.frz_commands_atlas.proofs.ReportMeaning.{report_lawful}
 pub use Rattle.frz_commands_atlas.proofs.SizeEnds.{size_lawful}
+pub use Rattle.frz_commands_atlas.proofs.BuiltKinds.{built_leans, built_own}
+pub use Rattle.frz_atlas.proofs.Lemmas.{as_own, of_own}

@@ -17,3 +17,4 @@ mod EachOnce
 mod RowsWith
 mod RowsRead
 mod EachRun
+mod BuiltKinds

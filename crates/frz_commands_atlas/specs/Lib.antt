@@ -10,5 +10,6 @@ pub mod RowLines
 pub mod Each
 pub mod EachMeans
 pub use Rattle.frz_atlas.specs.Behind
+pub use Rattle.frz_atlas.specs.FileOver
 pub use Rattle.frz_atlas_prelude.specs.Names
 pub use Rattle.frz_atlas_prelude.specs.declared.names.TheConstants as Limits

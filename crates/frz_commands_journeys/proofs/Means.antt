@@ -419,9 +419,10 @@ module _ (laws : JourneyLaws) (player : Player) (table : List ℕ) (behind : Lis
             arrives = arrives_so (Ok last) is;
             win = won_at_last;
             hold = held_at_last;
-            where_exact = λ keeps. bound_kept (value_over (leans bytes) contents.rules (backs_of links)) contents
+            where_exact = λ keeps. bound_kept
+                (value_over (leans bytes) contents.rules (backs_of links)) contents
                 bytes keeps side p inside;
-            true_exits = λ exact lines all. exits_so (leans bytes) contents.rules links exact lines all;
+            true_exits = λ exact own lines. exits_so (leans bytes) contents.rules links exact lines own;
           })
       by_answer (Err fault) is =
           by_fault fault is

@@ -1,14 +1,10 @@
 -- The tables of a journey as they were loaded are those in the files.
-use Rattle.std.proofs.Common.{◌≡◌, ap, subst, ◌∙◌, ℕ, List, map, Bool, true}
+use Rattle.std.proofs.Common.{subst, ℕ, List, map}
 use Rattle.frz_board.specs.Boards.{Board}
-use Rattle.frz_sets.specs.Views.{RuleLines}
 use Rattle.frz_store.specs.Told.{StoreTold}
-use Rattle.frz_table.specs.declared.kind.FileKind.{FileKind}
 use Rattle.frz_table.specs.Opening.{contents_of}
-use Rattle.frz_backs.specs.Books.{Back}
-use Rattle.frz_backs.specs.FileOn.{loaded_back}
 use Rattle.frz_backs.specs.Links.{Link}
-use Rattle.frz_backs.specs.Loaded.{leans_as, link_loaded}
+use Rattle.frz_backs.specs.Loaded.{link_loaded}
 use Rattle.frz_atlas.specs.Behind.{link_of}
 use Rattle.frz_atlas.specs.Reading.{LoadsAtlas}
 use Rattle.frz_atlas.specs.declared.reading.LoadedAtlas.{LoadedAtlas}

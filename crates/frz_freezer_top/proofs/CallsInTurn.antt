@@ -121,10 +121,10 @@ module _ (lawful : (later : ℕ → Files) (words : List (List ℕ))
     pub queried : (fen : List ℕ) → Succeeds later (query table fen) files b
         → TellsTrueBounds table fen files b.text
     queried fen h =
-        let at = at_position files h.input b h.done (querying_at Plain table) (fen_of fen)
+        let at = at_position files h.input b h.done (querying_at (Some Plain) table) (fen_of fen)
         h.answer ((lawful later (query table fen)).means files h.input b h.bytes h.answer) in
-        let means : MeansQuery Plain table at.0 files b = at.2 in
-        let kept : TellsKept Plain table at.0 files b.text =
+        let means : MeansQuery (Some Plain) table at.0 files b = at.2 in
+        let kept : TellsKept (Some Plain) table at.0 files b.text =
         subst (λ (s : Status). queries.MeansStatus Plain table at.0 files s b.text) h.done
         means.says in
         let same = headline_contents table files exact kept.bytes kept.contents kept.open_file in
@@ -300,11 +300,11 @@ module _ (lawful : (later : ℕ → Files) (words : List (List ℕ))
       → ChainHeadline table back files → Succeeds later (chainquery table fen) files b
       → TellsChainedBounds table back fen files b.text
   chain_queried later table back fen files b exact h =
-      let at = at_position files h.input b h.done (querying_at Chained table) (fen_of fen)
+      let at = at_position files h.input b h.done (querying_at (Some Chained) table) (fen_of fen)
       h.answer ((lawful later (chainquery table fen)).means files h.input b h.bytes h.answer)
       in
-      let means : MeansQuery Chained table at.0 files b = at.2 in
-      let kept : TellsKept Chained table at.0 files b.text =
+      let means : MeansQuery (Some Chained) table at.0 files b = at.2 in
+      let kept : TellsKept (Some Chained) table at.0 files b.text =
       subst (λ (s : Status). queries.MeansStatus Chained table at.0 files s b.text) h.done
       means.says in
       let same = chain_contents table back files exact kept.bytes kept.contents kept.open_file in

@@ -37,8 +37,8 @@ const WRONG_CODES: &[u32] = &[4, 6, 0, 0, 8, 5, 2, 2, 5, 5, 0, 0, 7, 7, 3, 3];
 
 /// A store whose calls fail so, with the knight's table and those of the rook.
 fn filled(alloc: Global, fails: &[Failing]) -> Result<MemStore, Fail> {
-    let knight = table_file(alloc, b"FREEZERA", KNIGHT.as_bytes(), 4, KNIGHT_CODES)?;
-    let late = table_file(alloc, b"FREEZERA", KNIGHT.as_bytes(), 4, LATE_CODES)?;
+    let knight = table_file(alloc, b"FREEZERB", KNIGHT.as_bytes(), 4, KNIGHT_CODES)?;
+    let late = table_file(alloc, b"FREEZERB", KNIGHT.as_bytes(), 4, LATE_CODES)?;
     let rook = plain_file(alloc, rook::TEXT.as_bytes(), &rook::CODES)?;
     let wrong = plain_file(alloc, rook::TEXT.as_bytes(), WRONG_CODES)?;
     let files = [
@@ -93,6 +93,17 @@ fn check_line(rt: &impl Abort, alloc: Global, row: &Row, fails: &[Failing]) -> R
 }
 
 const ROWS: &[Row] = &[
+    // With nothing behind it, a plain table tells the line of its own.
+    Row(
+        &["rook", rook::CORNER, "white"],
+        End::Done(Status::Success),
+        b"white wins within 2\na8b8\nh1h8\nmate\n",
+    ),
+    Row(
+        &["rook", rook::CORNER, "white", "knight"],
+        End::Done(Status::Success),
+        b"white wins within 2\na8b8\nh1h8\nmate\n",
+    ),
     Row(
         &["knight", CORNER, "white", "rook"],
         End::Done(Status::Success),
@@ -117,7 +128,7 @@ const ROWS: &[Row] = &[
     ),
     // The words are refused in turn: their number, the names, SIDE, FEN.
     Row(
-        &["knight", CORNER, "white"],
+        &["knight", CORNER],
         End::Done(Status::Words),
         b"words: count\n",
     ),
@@ -138,9 +149,9 @@ const ROWS: &[Row] = &[
     ),
     // The table is opened before those behind it.
     Row(
-        &["rook", CORNER, "white", "empty"],
+        &["empty", CORNER, "white", "none"],
         End::Done(Status::Table),
-        b"table: magic\n",
+        b"table: truncated 0 due 16\n",
     ),
     Row(
         &["knight", CORNER, "white", "rook", "empty"],

@@ -46,11 +46,11 @@ const DRAWN: &[u32] = &[1, 1, 1, 1];
 
 /// A store whose calls fail so, with the pawn's table and those behind it.
 fn filled(alloc: Global, fails: &[Failing]) -> Result<MemStore, Fail> {
-    let pawn = table_file(alloc, b"FREEZERA", PAWN.as_bytes(), 4, PAWN_CODES)?;
+    let pawn = table_file(alloc, b"FREEZERB", PAWN.as_bytes(), 4, PAWN_CODES)?;
     let plain = plain_file(alloc, PAWN.as_bytes(), PAWN_CODES)?;
     let won = plain_file(alloc, QUEEN.as_bytes(), WON)?;
     let untold = plain_file(alloc, QUEEN.as_bytes(), UNTOLD)?;
-    let kings = table_file(alloc, b"FREEZERA", KINGS.as_bytes(), 2, DRAWN)?;
+    let kings = table_file(alloc, b"FREEZERB", KINGS.as_bytes(), 2, DRAWN)?;
     let files = [
         ("pawn", pawn.as_slice()),
         ("plain", &plain),
@@ -121,7 +121,22 @@ const ROWS: &[Row] = &[
             exits 12 KPk\nexits 1 KRk\nexits 1 KBk\nexits 1 KNk\nexits 2 Kk\n\
             squeezes 1 unassigned 17\n",
     ),
-    Row(&["pawn"], End::Done(Status::Words), b"words: count\n"),
+    // A plain table goes by its exit lines alone, whatever stands behind it.
+    Row(
+        &["plain"],
+        End::Done(Status::Success),
+        b"squeeze 0 2 8/6kP/8/8/8/8/8/K7 w - - 0 1\n\
+            exits 12 KPk\nexits 1 KQk\nexits 1 KRk\nexits 1 KBk\nexits 1 KNk\nexits 2 Kk\n\
+            squeezes 1 unassigned 18\n",
+    ),
+    Row(
+        &["plain", "won"],
+        End::Done(Status::Success),
+        b"squeeze 0 2 8/6kP/8/8/8/8/8/K7 w - - 0 1\n\
+            exits 12 KPk\nexits 1 KQk\nexits 1 KRk\nexits 1 KBk\nexits 1 KNk\nexits 2 Kk\n\
+            squeezes 1 unassigned 18\n",
+    ),
+    Row(&[], End::Done(Status::Words), b"words: count\n"),
     Row(
         &["pawn", "won", "pawn"],
         End::Done(Status::Words),
@@ -129,9 +144,9 @@ const ROWS: &[Row] = &[
     ),
     // The table is opened before those behind it, and these from the left.
     Row(
-        &["plain", "empty"],
+        &["empty", "none"],
         End::Done(Status::Table),
-        b"table: magic\n",
+        b"table: truncated 0 due 16\n",
     ),
     Row(
         &["pawn", "kings", "empty", "none"],

@@ -165,9 +165,9 @@ const ROWS: &[Row] = &[
 
 /// A store with the knight's table and those behind it.
 fn filled(alloc: Global, row: &Row<'_>) -> Result<MemStore, Fail> {
-    let knight = table_file(alloc, b"FREEZERA", KNIGHT.as_bytes(), 4, KNIGHT_CODES)?;
+    let knight = table_file(alloc, b"FREEZERB", KNIGHT.as_bytes(), 4, KNIGHT_CODES)?;
     let next = plain_file(alloc, NEXT.as_bytes(), NEXT_CODES)?;
-    let rook = table_file(alloc, b"FREEZERA", rook::TEXT.as_bytes(), 8, row.rook)?;
+    let rook = table_file(alloc, b"FREEZERB", rook::TEXT.as_bytes(), 8, row.rook)?;
     let files = [
         ("knight", knight.as_slice()),
         ("next", &next),

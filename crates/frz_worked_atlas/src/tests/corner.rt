@@ -57,6 +57,17 @@ fn build_back(alloc: Global, store: &mut MemStore) -> Result<(), TestFail> {
     build_back_counted::<Brand>(alloc, store, blank)
 }
 
+/// The plain table of `atlas` is that of `freezer`.
+#[test]
+fn builds_what_freezer_builds(rt: HostRuntime) -> Result<(), TestFail> {
+    let alloc = rt.alloc();
+    let mut store = filled(alloc)?;
+    let row = Said(&["build", "back", "own.t"], 0, "built 3840\n");
+    expect_said(&rt, alloc, &mut store, &row)?;
+    expect_equal(&rt, &store.file("own.t"), &store.file("back.t"), "own.t");
+    Ok(())
+}
+
 /// A store with the three texts and the plain table of BACK.
 fn filled(alloc: Global) -> Result<MemStore, TestFail> {
     let files = [("back", BACK), ("high", HIGH), ("low", LOW)];

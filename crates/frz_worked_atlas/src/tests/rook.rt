@@ -18,7 +18,7 @@ const CODES: [u32; 16] = [4, 4, 0, 0, 6, 6, 2, 2, 5, 5, 0, 0, 7, 7, 3, 3];
 
 /// The rook's table over that of NEXT.
 fn rook_over_next(alloc: Global) -> Result<Vec<u8>, TestFail> {
-    table_file(alloc, b"FREEZERA", rook::TEXT.as_bytes(), 8, &CODES)
+    table_file(alloc, b"FREEZERB", rook::TEXT.as_bytes(), 8, &CODES)
 }
 
 /// A store with these failing calls, the rook's text, its own table, that of NEXT, one of NEXT whose
@@ -62,7 +62,15 @@ const CHECKED: &[Said] = &[
         6,
         "back 2: wrong black 1 kept 7 given 5\n",
     ),
-    Said(&["check", "A.t", "W.t"], 5, "table: magic\n"),
+    Said(&["check", "A.t"], 0, "exact 8\n"),
+    Said(&["check", "A.t", "N.t"], 0, "exact 8 over 2\n"),
+    Said(
+        &["check", "A.t", "W.t"],
+        6,
+        "back 1: wrong black 1 kept 7 given 5\n",
+    ),
+    Said(&["check", "W.t"], 6, "wrong black 1 kept 7 given 5\n"),
+    Said(&["check", "A"], 5, "table: magic\n"),
     Said(&["check", "over.t", "A"], 5, "back 1: magic\n"),
     Said(&["check", "none.t", "A"], 12, "missing table\n"),
     Said(
@@ -83,6 +91,30 @@ const NOT_BUILT: &[Said] = &[
     ),
 ];
 
+const OTHERS: &[Said] = &[
+    Said(
+        &["check", "C.t"],
+        5,
+        "table: chained, ask freezer chainquery\n",
+    ),
+    Said(&["report", "F.t"], 5, "table: former, ask freezer migrate\n"),
+    Said(
+        &["query", "O.t", rook::CORNER],
+        5,
+        "table: older, build it again\n",
+    ),
+    Said(
+        &["check", "A.t", "C.t"],
+        5,
+        "back 1: chained, ask freezer chainquery\n",
+    ),
+    Said(
+        &["line", "A.t", rook::CORNER, "white", "O.t"],
+        5,
+        "back 1: older, build it again\n",
+    ),
+];
+
 const SIZES: &str = "turns 2
 group 1 1
 group 2 2
@@ -98,7 +130,16 @@ const ASKED: &[Said] = &[
         0,
         "white wins within 2\nblack none\n",
     ),
-    Said(&["query", "A.t", rook::NEXT_TO_IT], 5, "table: magic\n"),
+    Said(
+        &["query", "A.t", rook::NEXT_TO_IT],
+        0,
+        "white none\nblack none\n",
+    ),
+    Said(
+        &["line", "A.t", rook::CORNER, "white"],
+        0,
+        "white wins within 2\na8b8\nh1h8\nmate\n",
+    ),
     Said(&["query", "over.t", rook::OUTSIDE], 7, "outside\n"),
     Said(
         &["query", "none.t", rook::NEXT_TO_IT],
@@ -143,6 +184,36 @@ fn builds_a_table(rt: HostRuntime) -> Result<(), TestFail> {
     let due = rook_over_next(alloc)?;
     expect_equal(&rt, &store.file("T"), &Some(due.as_slice()), "T");
     Ok(())
+}
+
+/// With nothing behind it, the table is the plain one.
+#[test]
+fn builds_a_plain_table(rt: HostRuntime) -> Result<(), TestFail> {
+    let alloc = rt.alloc();
+    let mut store = filled(alloc, no_fails(alloc))?;
+    let row = Said(&["build", "A", "T"], 0, "built 8\n");
+    expect_said(&rt, alloc, &mut store, &row)?;
+    let due = plain_file(alloc, rook::TEXT.as_bytes(), &rook::CODES)?;
+    expect_equal(&rt, &store.file("T"), &Some(due.as_slice()), "T");
+    Ok(())
+}
+
+/// What no command here reads is refused as what it is.
+#[test]
+fn refuses_other_files_by_name(rt: HostRuntime) -> Result<(), TestFail> {
+    let alloc = rt.alloc();
+    let chained = table_file(alloc, b"FREEZERC", rook::TEXT.as_bytes(), 8, &CODES)?;
+    let former = table_file(alloc, b"FREEZER1", rook::TEXT.as_bytes(), 8, &CODES)?;
+    let older = table_file(alloc, b"FREEZERA", rook::TEXT.as_bytes(), 8, &CODES)?;
+    let plain = plain_file(alloc, rook::TEXT.as_bytes(), &rook::CODES)?;
+    let files = [
+        ("C.t", chained.as_slice()),
+        ("F.t", former.as_slice()),
+        ("O.t", older.as_slice()),
+        ("A.t", plain.as_slice()),
+    ];
+    let mut store = store_with(alloc, no_fails(alloc), &files)?;
+    expect_all(&rt, alloc, &mut store, OTHERS)
 }
 
 #[test]

@@ -13,7 +13,7 @@ use Rattle.frz_commands_ask.specs.Querying.{querying_at}
 use Rattle.frz_commands_ask.proofs.QueryEnds.{own_stop, stopped_at}
 use Rattle.frz_commands_ask.proofs.querying.query_kind.Goals as goal
 
-abbrev by_words : FileKind → List ℕ × List ℕ → Job
+abbrev by_words : Option FileKind → List ℕ × List ℕ → Job
 by_words kind words = on_position (querying_at kind words.0) (fen_of words.1)
 
 pub returns-in_err-table-clause-replies : goal.returns-in_err-table-clause-replies
