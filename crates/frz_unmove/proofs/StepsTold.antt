@@ -1,10 +1,11 @@
 -- What the board without the man that stepped tells of the position before the step.
-use Rattle.std.proofs.Common.{◌≡◌, ℕ, ◌<◌, true, false, Option, None, Some, List, ap, sym, subst, ◌∙◌, ◌↔◌}
+use Rattle.std.proofs.Common.{◌≡◌, ℕ, ◌<◌, true, false, Option, Some, List, ap, sym, subst, ◌∙◌, ◌↔◌}
 use Rattle.std.proofs.lemmas.Option.{same_Some}
 use Rattle.frz_board.proofs.Lemmas.{other_other}
 use Rattle.frz_board.specs.declared.man.Man.{Man}
 use Rattle.frz_board.specs.Attacks.{is_in_check, reaches}
 use Rattle.frz_board.specs.Boards.{Board}
+use Rattle.frz_board.specs.EnPassant.{has_target_in_place}
 use Rattle.frz_board.specs.Men.{is_man_of, other_of}
 use Rattle.frz_board.specs.Moving.{Step}
 use Rattle.frz_fide.proofs.Lemmas.{same_side}
@@ -16,9 +17,10 @@ use Rattle.frz_index.specs.Stepping.{stepped}
 use Rattle.frz_sets.specs.Views.{GroupLine}
 use Rattle.frz_unmove.proofs.StepsBack.{back_step}
 use Rattle.frz_unmove.proofs.StepsSafe.{checks_from, reaches_from}
+use Rattle.frz_unmove.proofs.StepsTarget.{in_place}
 use Rattle.frz_unmove.proofs.StepsValid.{valid_step}
 use Rattle.frz_unmove.specs.declared.quiet.Ready.{Ready}
-use Rattle.frz_unmove.specs.Quiet.{IsQuietBack, IsReady}
+use Rattle.frz_unmove.specs.Quiet.{IsQuietBack, IsReady, keeps_target}
 
 module _ (q : Board) (m : Step) (taken : ℕ) (target : Option ℕ) (man : Man) (v : IsValid q)
     (lf : m.from < 64) (lt : m.to < 64) (h : IsQuietBack q m taken man)
@@ -46,10 +48,16 @@ module _ (q : Board) (m : Step) (taken : ℕ) (target : Option ℕ) (man : Man) 
       ready.on_board ready.king_is
       (ap (λ (b : Board). is_in_check b q.turn) (sym ready.bare_is) ∙ ready.safe)
 
+  keeps_is : keeps_target r.bare target m.from ≡ has_target_in_place earlier
+  keeps_is =
+      ap (λ (b : Board). keeps_target b target m.from) ready.bare_is
+      ∙ sym (in_place q man m.to m.from target (back_step q m taken target man v lf lt h) h.piece)
+
   pub valid_there : reaches r.bare man.colour man.kind m.from r.king ≡ false →
-      target ≡ None → IsValid earlier
-  valid_there e none =
-      valid_step q man m.to m.from target (back_step q m taken target man v lf lt h) v h.piece none
+      keeps_target r.bare target m.from ≡ true → IsValid earlier
+  valid_there e kept =
+      valid_step q man m.to m.from target (back_step q m taken target man v lf lt h) v h.piece
+      (sym keeps_is ∙ kept)
       (ap (is_in_check earlier) (other_other q.turn) ∙ sym check_is ∙ e)
 
   abbrev pub Tells : List GroupLine → Option ℕ → ℕ → Type 0
@@ -62,9 +70,11 @@ module _ (q : Board) (m : Step) (taken : ℕ) (target : Option ℕ) (man : Man) 
       reaches earlier man.colour man.kind m.from m.to ≡ true →
       (reaches r.bare man.colour man.kind m.from m.to ≡ true)
       × (reaches r.bare man.colour man.kind m.from r.king ≡ false)
+      × (keeps_target r.bare target m.from ≡ true)
   told_origin gs i k e = (
     reach_is m.to ∙ e,
     check_is ∙ sym (ap (is_in_check earlier) (other_other q.turn)) ∙ k.member.valid.safe,
+    keeps_is ∙ k.member.valid.target,
   )
 
   pub numbered : (gs : List GroupLine) (n : ℕ) →

@@ -50,21 +50,31 @@ fn add_named(
     }
 }
 
-/// Adds the move of the man of `ready`, which took nothing, if the set has the position before it.
-fn add_step(set: &Set, at: u32, q: &Bitboards, m: Move, ready: &Ready, out: &mut Preds)
+/// Adds the move of the man of `ready`, which took nothing and had this earlier target, if the set
+/// has the position before it.
+fn add_step(
+    set: &Set,
+    at: u32,
+    q: &Bitboards,
+    m: Move,
+    ready: &Ready,
+    target: &Option<Square>,
+    out: &mut Preds,
+)
     requires number { HasNumber set.now at q.now }
     requires quiet { IsQuietBack q.now m 0 ready.now.man }
     requires ready { IsReady q.now m.to ready.now }
-    requires origin { is_quiet_origin ready.now m.to m.from ≡ true }
+    requires origin { is_quiet_origin ready.now target.now m.to m.from ≡ true }
     requires room { length out.old + 1 ≤ 131072 }
-    ensures { Adds (ComesFrom set.now q.now m 0 None) out.old out.new 1 }
+    ensures { Adds (ComesFrom set.now q.now m 0 target.now) out.old out.new 1 }
 {
-    if let Some(number) = number_by_lines(set, at, q, m, ready) {
+    if let Some(number) = number_by_lines(set, at, q, m, ready, target) {
         out.push(Pred { number, mv: m });
     }
 }
 
-/// Adds the moves of the man of `ready` from the squares `origins` that took nothing.
+/// Adds the moves of the man of `ready` from the squares `origins` that took nothing and had this
+/// earlier target.
 fn add_steps(
     set: &Set,
     at: u32,
@@ -72,19 +82,20 @@ fn add_steps(
     to: Square,
     origins: u64,
     ready: &Ready,
+    target: &Option<Square>,
     out: &mut Preds,
 )
     requires number { HasNumber set.now at q.now }
     requires ready { IsReady q.now to ready.now }
     requires origins { HasOrigins set.now q.now to None origins }
     requires room { length out.old + 64 ≤ 131072 }
-    ensures { Adds (ComesAt set.now q.now to None 0 None) out.old out.new 64 }
+    ensures { Adds (ComesAt set.now q.now to None 0 target.now) out.old out.new 64 }
 {
-    let quiet = quiet_origins(q, ready, to, origins);
+    let quiet = quiet_origins(q, ready, to, target, origins);
     let promo = None;
     let mut n = 0;
     while let Some(from) = next_square(quiet, n) {
-        add_step(set, at, q, Move { from, to, promo }, ready, out);
+        add_step(set, at, q, Move { from, to, promo }, ready, target, out);
         n = from.number() + 1;
     }
 }
@@ -150,8 +161,8 @@ fn add_at(
     ensures { Adds (ComesAt set.now q.now arrival.now.to arrival.now.promo taken target.now)
         out.old out.new 64 }
 {
-    match ready_for(q, arrival.to, arrival.promo, taken, target) {
-        Some(ready) => add_steps(set, at, q, arrival.to, origins, &ready, out),
+    match ready_for(q, arrival.to, arrival.promo, taken) {
+        Some(ready) => add_steps(set, at, q, arrival.to, origins, &ready, target, out),
         None => add_tested(set, at, q, arrival, origins, taken, target, out),
     }
 }
