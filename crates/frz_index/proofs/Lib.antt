@@ -1,4 +1,5 @@
 pub mod Lemmas
+pub mod SoundShapes
 pub mod Soundness
 pub mod Turns
 pub mod Filling

@@ -1,5 +1,5 @@
 //! The set of positions that the groups of some rules describe.
-ghost use Rattle.std.specs.Prelude.{◌≡◌, ◌↔◌, ◌<◌, ◌≤◌, IfOk, IfSome, IsNone, IsSome, MatchOption, None, Some, ◌/◌, false, map, true};
+ghost use Rattle.std.specs.Prelude.{◌≡◌, ◌↔◌, ◌<◌, ◌≤◌, IfOk, IfSome, IsNone, IsSome, IsTrue, MatchOption, None, Some, ◌/◌, false, map, true};
 ghost use Rattle.frz_board.specs.Boards.{Board, is_empty, man_on};
 ghost use Rattle.frz_board.specs.Men.{cell_of_man};
 ghost use Rattle.frz_board.specs.declared.man.Colour.TheVariants.{White};
@@ -11,7 +11,7 @@ ghost use Rattle.frz_sets.specs.Sets.{radix_of, size_of, targets};
 ghost use Rattle.frz_sets.specs.Sound.{IsSound};
 ghost use Rattle.frz_squares.specs.SquareSets.{set_of};
 ghost use Rattle.frz_sets.specs.declared.limits.TheConstants.{MOST_NUMBERS};
-ghost use Rattle.frz_index.specs.Members.{Broken, HasNumber, Member, Num};
+ghost use Rattle.frz_index.specs.Members.{Broken, HasNumber, HasShape, Member, Num};
 ghost use Rattle.frz_index.specs.Partners.{with_black};
 ghost use Rattle.frz_index.specs.Membership.{number_of, position_at};
 ghost use Rattle.frz_index.specs.Candidates.{candidate, no_men};
@@ -31,8 +31,8 @@ use crate::plan::{Plan, plan_of};
 use crate::quotient::{left_over, quotient};
 use crate::room::{any_takes_one_more, any_unfilled};
 use crate::turn::{turn_at, turn_number};
-use frz_board::{Colour, Man, Move, NoMemory, Position, Square, cell_of};
-use frz_fide::{Bitboards, contains, valid_boards, without};
+use frz_board::{Colour, Man, Move, NoMemory, Position, Square, cell_of, target_in_place};
+use frz_fide::{Bitboards, contains, without};
 use frz_sets::Rules;
 use std::alloc::Global;
 use std::marker::Model;
@@ -117,6 +117,15 @@ fn candidate_in(plan: &Plan, i: u32) -> Option<Bitboards>
     } else {
         None
     }
+}
+
+/// Is the position, which has the shape of a valid one, valid? Its target must be in place, and the
+/// king of the side not to move not attacked.
+fn is_valid_in_shape(p: &Bitboards) -> bool
+    requires { HasShape p.now }
+    ensures { IsTrue result ↔ IsValid p.now }
+{
+    target_in_place(p.as_position()) && !p.is_in_check(p.turn().other())
 }
 
 /// The side to move of a number's turn state.
@@ -334,7 +343,8 @@ impl Set {
     /// if the number is not below the size, or two men would stand on one square: it is broken.
     fn candidate(&self, i: u32) -> Option<Bitboards>
         ensures { MatchOption result (Broken self.now i)
-            (λ p. (p ≡ candidate self.now i) × (IsValid p ↔ HasNumber self.now i p)) }
+            (λ p. (p ≡ candidate self.now i) × (IsValid p ↔ HasNumber self.now i p)
+            × HasShape p) }
     {
         if i < self.size() {
             candidate_in(&self.plan, i)
@@ -365,10 +375,7 @@ impl Set {
     {
         match self.candidate(i) {
             None => None,
-            Some(p) => match valid_boards(&p) {
-                Err(_) => None,
-                Ok(()) => Some(p),
-            },
+            Some(p) => { if is_valid_in_shape(&p) { Some(p) } else { None } }
         }
     }
 

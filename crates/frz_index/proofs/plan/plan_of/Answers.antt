@@ -1,12 +1,12 @@
 use Rattle.std.proofs.Common.{List, ap, sym, ◌∙◌, subst}
 use Rattle.frz_sets.specs.Views.{GroupLine, RuleLines}
 use Rattle.frz_sets.specs.Sets.{targets}
-use Rattle.frz_index.specs.Kept.{AreApart, AreKnown, AreNumberable, AreWeights, product_from}
+use Rattle.frz_index.specs.Kept.{AreApart, AreKnown, AreNumberable, AreSoundGroups, AreWeights, product_from}
 use Rattle.std.specs.List.{AllByRecursion}
 use Rattle.frz_sets.specs.Sound.{AreStates}
 use Rattle.frz_index.specs.Charts.{AreCharts}
 use Rattle.frz_index.specs.Shares.{AreShares}
-use Rattle.frz_index.proofs.Soundness.{apart, in_order, numberable}
+use Rattle.frz_index.proofs.Soundness.{apart, in_order, numberable, sound_groups}
 use Rattle.frz_index.proofs.plan.plan_of.Goals as goal
 
 pub weights_of-requires : goal.weights_of-requires
@@ -27,6 +27,7 @@ returns c =
     let same = c.in_ok-groups.ensures ∙ c.deref.ensures.value ∙ ap (λ (r : RuleLines). r.groups)
     c.r.view_is in (
       record {
+        sound = subst AreSoundGroups (sym same) (sound_groups c.args.r.now c.requires);
         numberable = subst AreNumberable (sym same) (numberable c.args.r.now c.requires);
         apart = subst AreApart (sym same) (apart c.args.r.now c.requires);
         weights_are = subst (λ (gs : List GroupLine). AreWeights gs c.in_ok-weights.weights.items)
