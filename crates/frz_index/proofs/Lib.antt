@@ -1,3 +1,5 @@
+pub mod AnyOrder
+pub mod FixedFirst
 pub mod Lemmas
 pub mod SoundShapes
 pub mod Soundness

@@ -14,7 +14,7 @@ ghost use Rattle.frz_sets.specs.declared.limits.TheConstants.{MOST_NUMBERS};
 ghost use Rattle.frz_index.specs.Members.{Broken, HasNumber, HasShape, Member, Num};
 ghost use Rattle.frz_index.specs.Partners.{with_black};
 ghost use Rattle.frz_index.specs.Membership.{number_of, position_at};
-ghost use Rattle.frz_index.specs.Candidates.{candidate, no_men};
+ghost use Rattle.frz_index.specs.Candidates.{candidate};
 ghost use Rattle.frz_index.specs.FreeSquares.{is_spread};
 ghost use Rattle.frz_index.specs.Kept.{IsPlan, is_known};
 ghost use Rattle.frz_index.specs.Leaving.{leaves};
@@ -26,7 +26,8 @@ ghost use Rattle.frz_index.specs.Taking.{IsCountedTaking, IsTaking};
 use crate::across::{arriving, number_after_taking_in, stepping_man, taking_men};
 use crate::among::number_after_step_in;
 use crate::beside::number_beside_in;
-use crate::digits::{number_of_digits, put_all};
+use crate::digits::{number_of_digits, put_loose};
+use crate::fixed::fixed_board;
 use crate::plan::{Plan, plan_of};
 use crate::quotient::{left_over, quotient};
 use crate::room::{any_takes_one_more, any_unfilled};
@@ -85,13 +86,6 @@ fn number_in(plan: &Plan, p: &Bitboards) -> Option<u32>
     Some(turn * plan.whole + digits)
 }
 
-#[tactic(auto, unfolding(crate::specs::Candidates::no_men))]
-fn empty_board(turn: Colour, ep: Option<Square>) -> Bitboards
-    ensures { result ≡ record { cells = no_men; turn = turn; ep = ep } }
-{
-    Bitboards::empty(turn, ep)
-}
-
 /// The side to move and the en passant target that a number stands for.
 fn turn_state_in(plan: &Plan, i: u32) -> (Colour, Option<Square>)
     requires { IsPlan plan.now }
@@ -110,9 +104,9 @@ fn candidate_in(plan: &Plan, i: u32) -> Option<Bitboards>
         (λ p. (is_spread gs i ≡ true) × (p ≡ candidate gs i)) }
 {
     let (turn, ep) = turn_state_in(plan, i);
-    let mut p = empty_board(turn, ep);
+    let mut p = fixed_board(&plan.fixed, turn, ep)?;
     let rest = left_over(i, plan.whole);
-    if put_all(&mut p, &plan.triangle, &plan.groups, &plan.weights, rest) {
+    if put_loose(&mut p, &plan.triangle, &plan.groups, &plan.weights, rest) {
         Some(p)
     } else {
         None
