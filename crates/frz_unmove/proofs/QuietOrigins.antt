@@ -28,13 +28,13 @@ false_of true h = cc
 -- while he stood there
 pub origin_parts : (r : Ready) (target : Option ℕ) (to a : ℕ) →
     is_quiet_origin r target to a ≡ true →
-    (reaches r.bare r.man.colour r.man.kind a to ≡ true)
-    × (reaches r.bare r.man.colour r.man.kind a r.king ≡ false)
-    × (keeps_target r.bare target a ≡ true)
+    (reaches r.bare.now r.man.colour r.man.kind a to ≡ true)
+    × (reaches r.bare.now r.man.colour r.man.kind a r.king ≡ false)
+    × (keeps_target r.bare.now target a ≡ true)
 origin_parts r target to a e =
-    let way = reaches r.bare r.man.colour r.man.kind a to in
-    let check = reaches r.bare r.man.colour r.man.kind a r.king in
-    let parts = and_parts (way && not check) (keeps_target r.bare target a) e in
+    let way = reaches r.bare.now r.man.colour r.man.kind a to in
+    let check = reaches r.bare.now r.man.colour r.man.kind a r.king in
+    let parts = and_parts (way && not check) (keeps_target r.bare.now target a) e in
     let lines = and_parts way (not check) parts.0 in
     (lines.0, false_of check lines.1, parts.1)
 
@@ -79,10 +79,10 @@ comes_quiet gs q to squares target r v ready origins x h =
     let told = told_origin q m 0 target r.man v c.step.from c.step.to quiet r
     (subst (λ t. IsReady q t r) (sym end) ready) gs x.number number
     (sym (legal_where q m 0 target r.man v c.step.from c.step.to quiet) ∙ legal) in
-    let way = reaches r.bare r.man.colour r.man.kind m.from m.to in
-    let check = reaches r.bare r.man.colour r.man.kind m.from r.king in
+    let way = reaches r.bare.now r.man.colour r.man.kind m.from m.to in
+    let check = reaches r.bare.now r.man.colour r.man.kind m.from r.king in
     let origin : is_quiet_origin r target m.to m.from ≡ true =
-    and_from (way && not check) (keeps_target r.bare target m.from)
+    and_from (way && not check) (keeps_target r.bare.now target m.from)
     (and_from way (not check) told.0 (ap not told.1)) told.2 in
     and_from (has_square squares m.from) (is_empty q m.from && is_quiet_origin r target to m.from)
     (origins x h.0.0)

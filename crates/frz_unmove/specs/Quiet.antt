@@ -30,8 +30,8 @@ pub record IsPieceAt (q : Board) (to : ℕ) (man : Man) : Type 0 where
 -- is not attacked, and that king's square
 pub record IsReady (q : Board) (to : ℕ) (ready : Ready) : Type 0 where
   pub there : IsPieceAt q to ready.man
-  pub bare_is : ready.bare ≡ record q { cells = slice_set q.cells to 0 }
-  pub safe : is_in_check ready.bare q.turn ≡ false
+  pub bare_is : ready.bare.now ≡ record q { cells = slice_set q.cells to 0 }
+  pub safe : is_in_check ready.bare.now q.turn ≡ false
   pub on_board : ready.king < 64
   pub king_is : has q q.turn King ready.king ≡ true
 
@@ -46,6 +46,6 @@ keeps_target bare (Some t) a =
 -- and none to the king
 abbrev pub is_quiet_origin : Ready → Option ℕ → ℕ → ℕ → Bool
 is_quiet_origin ready target to a =
-    (reaches ready.bare ready.man.colour ready.man.kind a to
-    && not (reaches ready.bare ready.man.colour ready.man.kind a ready.king))
-    && keeps_target ready.bare target a
+    (reaches ready.bare.now ready.man.colour ready.man.kind a to
+    && not (reaches ready.bare.now ready.man.colour ready.man.kind a ready.king))
+    && keeps_target ready.bare.now target a

@@ -1,5 +1,5 @@
 //! The position before a move that took nothing and was no pawn's, and its number.
-ghost use Rattle.std.specs.Prelude.{◌≡◌, ◌↔◌, ◌<◌, ◌&&◌, IfSome, None, Some, false, true, ℕ};
+ghost use Rattle.std.specs.Prelude.{◌≡◌, ◌↔◌, ◌<◌, ◌&&◌, IfSome, None, Some, false, slice_set, true, ℕ};
 ghost use Rattle.frz_board.specs.Attacks.{reaches};
 ghost use Rattle.frz_board.specs.Boards.{is_empty};
 ghost use Rattle.frz_board.specs.Men.{is_pawn};
@@ -50,9 +50,9 @@ fn back(q: &Bitboards, man: Man, from: Square, to: Square, target: &Option<Squar
 /// The man that has moved, the board without him, and the square of the king of the side to move,
 /// which is not attacked on that board.
 #[derive(Drop)]
-pub(crate) struct Ready {
+pub(crate) struct Ready<'a> {
     pub man: Man,
-    pub bare: Bitboards,
+    pub bare: &'a Bitboards,
     pub king: Square,
 }
 
@@ -72,39 +72,37 @@ fn piece_at(q: &Bitboards, to: Square) -> Option<Man>
     }
 }
 
-/// The board without the man on the square. `None` if the king of the side to move is then
-/// attacked.
-fn bared(q: &Bitboards, to: Square, mover: Man) -> Option<Ready>
-    requires { IsPieceAt q.now to mover }
+/// The man on the square, ready to be taken back. `bare` is the board without him. `None` if the
+/// king of the side to move is attacked on it.
+pub(crate) fn ready_on<'a>(
+    q: &Bitboards,
+    to: Square,
+    man: Man,
+    bare: &'a Bitboards,
+) -> Option<Ready<'a>>
+    requires piece { IsPieceAt q.now to man }
+    requires bare { bare.now ≡ record q.now { cells = slice_set q.now.cells to 0 } }
     ensures { IfSome result (λ r. IsReady q.now to r) }
 {
-    let bare = q.put(to, 0);
     if bare.is_in_check(q.turn()) {
         return None;
     }
-    let man = Man {
-        colour: q.turn(),
-        kind: Kind::King,
-    };
-    let king = next_square(q.men(man), 0)?;
-    Some(Ready {
-        man: mover,
-        bare,
-        king,
-    })
+    let colour = q.turn();
+    let kind = Kind::King;
+    let king = next_square(q.men(Man { colour, kind }), 0)?;
+    Some(Ready { man, bare, king })
 }
 
-/// `bared`, for moves to the square that took nothing, promoted nothing and are no pawn's, with no
-/// en passant target after them. `None` for all others.
-pub(crate) fn ready_for(q: &Bitboards, to: Square, promo: Option<Kind>, taken: u8) -> Option<Ready>
-    ensures ready { IfSome result (λ r. IsReady q.now to r) }
+/// The man that moved to the square, if the move took nothing, promoted nothing and was no pawn's,
+/// and left no en passant target.
+pub(crate) fn moved_piece(q: &Bitboards, to: Square, promo: Option<Kind>, taken: u8) -> Option<Man>
+    ensures piece { IfSome result (λ man. IsPieceAt q.now to man) }
     ensures plain { IfSome result (λ _. (taken ≡ 0) × (promo ≡ None)) }
 {
     if taken != 0 || promo.is_some() {
         return None;
     }
-    let man = piece_at(q, to)?;
-    bared(q, to, man)
+    piece_at(q, to)
 }
 
 /// Those of `squares` on which the man may have stood while `target` was the en passant target.
@@ -134,7 +132,7 @@ fn keeping_target(bare: &Bitboards, target: &Option<Square>, squares: u64) -> u6
 /// and none to the king.
 pub(crate) fn quiet_origins(
     q: &Bitboards,
-    ready: &Ready,
+    ready: &Ready<'_>,
     to: Square,
     target: &Option<Square>,
     squares: u64,
@@ -145,7 +143,7 @@ pub(crate) fn quiet_origins(
         && (is_empty q.now a && is_quiet_origin ready.now target.now to a)) }
 {
     let free = without(squares, q.occupied());
-    let kept = keeping_target(&ready.bare, target, free);
+    let kept = keeping_target(ready.bare, target, free);
     let ways = ready.bare.reached(ready.man, to, kept);
     without(ways, ready.bare.reached(ready.man, ready.king, ways))
 }
@@ -157,7 +155,7 @@ pub(crate) fn number_by_lines(
     at: u32,
     q: &Bitboards,
     m: Move,
-    ready: &Ready,
+    ready: &Ready<'_>,
     target: &Option<Square>,
 ) -> Option<u32>
     requires number { HasNumber set.now at q.now }

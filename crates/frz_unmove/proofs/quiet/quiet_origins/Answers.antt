@@ -25,7 +25,7 @@ returns c a l =
     let c0 = r.man.colour in
     let k0 = r.man.kind in
     let s = has_square c.args.squares a in
-    let g = keeps_target r.bare c.args.target.now a in
+    let g = keeps_target r.bare.now c.args.target.now a in
     let free : has_square c.without-free.result a ≡ (s && is_empty q a) =
     c.without-free.ensures a l
     ∙ ap (λ x. s && not x) (in_set (λ y. not (is_empty q y)) c.occupied.result a
@@ -34,19 +34,19 @@ returns c a l =
     let stood : has_square c.keeping_target-kept.result a ≡ ((s && is_empty q a) && g) =
     c.keeping_target-kept.ensures a l ∙ ap (λ x. x && g) free in
     let ways : has_square c.reached-ways.result a
-    ≡ (((s && is_empty q a) && g) && reaches r.bare c0 k0 a c.args.to) =
+    ≡ (((s && is_empty q a) && g) && reaches r.bare.now c0 k0 a c.args.to) =
     c.reached-ways.ensures a l
-    ∙ ap (λ x. x && reaches r.bare c0 k0 c.args.to a) stood
-    ∙ ap (λ x. ((s && is_empty q a) && g) && x) (reaches_back r.bare c0 k0 c.args.to a c.requires)
+    ∙ ap (λ x. x && reaches r.bare.now c0 k0 c.args.to a) stood
+    ∙ ap (λ x. ((s && is_empty q a) && g) && x) (reaches_back r.bare.now c0 k0 c.args.to a c.requires)
     in
     let checks : has_square c.reached.result a
-    ≡ ((((s && is_empty q a) && g) && reaches r.bare c0 k0 a c.args.to)
-    && reaches r.bare c0 k0 a r.king) =
+    ≡ ((((s && is_empty q a) && g) && reaches r.bare.now c0 k0 a c.args.to)
+    && reaches r.bare.now c0 k0 a r.king) =
     c.reached.ensures a l
-    ∙ ap (λ x. x && reaches r.bare c0 k0 r.king a) ways
-    ∙ ap (λ x. (((s && is_empty q a) && g) && reaches r.bare c0 k0 a c.args.to) && x)
-    (reaches_back r.bare c0 k0 r.king a c.requires) in
+    ∙ ap (λ x. x && reaches r.bare.now c0 k0 r.king a) ways
+    ∙ ap (λ x. (((s && is_empty q a) && g) && reaches r.bare.now c0 k0 a c.args.to) && x)
+    (reaches_back r.bare.now c0 k0 r.king a c.requires) in
     c.without.ensures a l
     ∙ ap (λ x. x && not (has_square c.reached.result a)) ways
-    ∙ ap (λ x. (((s && is_empty q a) && g) && reaches r.bare c0 k0 a c.args.to) && not x) checks
-    ∙ kept s (is_empty q a) g (reaches r.bare c0 k0 a c.args.to) (reaches r.bare c0 k0 a r.king)
+    ∙ ap (λ x. (((s && is_empty q a) && g) && reaches r.bare.now c0 k0 a c.args.to) && not x) checks
+    ∙ kept s (is_empty q a) g (reaches r.bare.now c0 k0 a c.args.to) (reaches r.bare.now c0 k0 a r.king)
