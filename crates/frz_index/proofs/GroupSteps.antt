@@ -14,8 +14,7 @@ use Rattle.frz_combinations.proofs.Lemmas.{digit_below}
 use Rattle.frz_combinations.specs.Binomials.{capped}
 use Rattle.frz_combinations.specs.MixedRadix.{digits, product, value}
 use Rattle.frz_index.proofs.Turns.{place_at}
-use Rattle.frz_index.specs.Candidates.{put_group, put_groups}
-use Rattle.frz_index.specs.FreeSquares.{are_groups_free, is_group_free}
+use Rattle.frz_index.specs.FixedMen.{are_loose_free, is_free_if_loose, put_if_loose, put_loose}
 use Rattle.frz_index.specs.Kept.{AreNumberable, AreWeights, product_from}
 use Rattle.frz_sets.specs.Sound.{IsCounted}
 use Rattle.frz_index.specs.Places.{IsWithinCount, digit_of, places, stands}
@@ -150,53 +149,53 @@ left_end p gs i total h l =
       let v = ap (λ xs. value (map radix_of xs) (map (digit_of p) xs)) e in omega (arith, l.sum, v),
     )
 
--- a group's men are put, and what is left is for the groups after it
+-- a loose group's men are put, and what is left is for the groups after it
 pub put_step : (gs : List GroupLine) (i : ℕ) (g : GroupLine) (w rest : ℕ) (cells : List ℕ) →
     At gs i g w →
-    put_groups (drop (i + 1) gs) (digits (map radix_of (drop (i + 1) gs)) (rest % w))
-    (put_group g (rest / w) cells) ≡ put_groups (drop i gs) (digits (map radix_of (drop i gs)) rest)
+    put_loose (drop (i + 1) gs) (digits (map radix_of (drop (i + 1) gs)) (rest % w))
+    (put_if_loose g (rest / w) cells) ≡ put_loose (drop i gs) (digits (map radix_of (drop i gs)) rest)
     cells
 put_step gs i g w rest cells a =
-    ap (λ v. put_groups (drop (i + 1) gs) (digits (map radix_of (drop (i + 1) gs)) (rest % v))
-    (put_group g (rest / v) cells)) a.weight
-    ∙ sym (ap (λ xs. put_groups xs (digits (map radix_of xs) rest) cells) a.is)
+    ap (λ v. put_loose (drop (i + 1) gs) (digits (map radix_of (drop (i + 1) gs)) (rest % v))
+    (put_if_loose g (rest / v) cells)) a.weight
+    ∙ sym (ap (λ xs. put_loose xs (digits (map radix_of xs) rest) cells) a.is)
 
 pub put_end : (gs : List GroupLine) (i rest : ℕ) (cells : List ℕ) → length gs ≤ i →
-    cells ≡ put_groups (drop i gs) (digits (map radix_of (drop i gs)) rest) cells
+    cells ≡ put_loose (drop i gs) (digits (map radix_of (drop i gs)) rest) cells
 put_end gs i rest cells h =
-    sym (ap (λ xs. put_groups xs (digits (map radix_of xs) rest) cells) (drop_end gs i h))
+    sym (ap (λ xs. put_loose xs (digits (map radix_of xs) rest) cells) (drop_end gs i h))
 
--- where the men of the group at i find their squares free, the later groups decide
+-- where the loose men of the group at i find their squares free, the later groups decide
 pub free_step : (gs : List GroupLine) (i : ℕ) (g : GroupLine) (w rest : ℕ) (cells : List ℕ) →
-    At gs i g w → is_group_free g (rest / w) cells ≡ true →
-    are_groups_free (drop (i + 1) gs) (digits (map radix_of (drop (i + 1) gs)) (rest % w))
-    (put_group g (rest / w) cells)
-    ≡ are_groups_free (drop i gs) (digits (map radix_of (drop i gs)) rest) cells
+    At gs i g w → is_free_if_loose g (rest / w) cells ≡ true →
+    are_loose_free (drop (i + 1) gs) (digits (map radix_of (drop (i + 1) gs)) (rest % w))
+    (put_if_loose g (rest / w) cells)
+    ≡ are_loose_free (drop i gs) (digits (map radix_of (drop i gs)) rest) cells
 free_step gs i g w rest cells a free =
     let later = drop (i + 1) gs in
     let v = product (map radix_of later) in
-    let next = are_groups_free later (digits (map radix_of later) (rest % v))
-    (put_group g (rest / v) cells) in
-    ap (λ v. are_groups_free later (digits (map radix_of later) (rest % v))
-    (put_group g (rest / v) cells)) a.weight
-    ∙ sym (ap (λ b. b && next) (ap (λ v. is_group_free g (rest / v) cells) (sym a.weight) ∙ free))
-    ∙ sym (ap (λ xs. are_groups_free xs (digits (map radix_of xs) rest) cells) a.is)
+    let next = are_loose_free later (digits (map radix_of later) (rest % v))
+    (put_if_loose g (rest / v) cells) in
+    ap (λ v. are_loose_free later (digits (map radix_of later) (rest % v))
+    (put_if_loose g (rest / v) cells)) a.weight
+    ∙ sym (ap (λ b. b && next) (ap (λ v. is_free_if_loose g (rest / v) cells) (sym a.weight) ∙ free))
+    ∙ sym (ap (λ xs. are_loose_free xs (digits (map radix_of xs) rest) cells) a.is)
 
 pub free_stop : (gs : List GroupLine) (i : ℕ) (g : GroupLine) (w rest : ℕ) (cells : List ℕ) →
-    At gs i g w → is_group_free g (rest / w) cells ≡ false →
-    false ≡ are_groups_free (drop i gs) (digits (map radix_of (drop i gs)) rest) cells
+    At gs i g w → is_free_if_loose g (rest / w) cells ≡ false →
+    false ≡ are_loose_free (drop i gs) (digits (map radix_of (drop i gs)) rest) cells
 free_stop gs i g w rest cells a free =
     let later = drop (i + 1) gs in
     let v = product (map radix_of later) in
-    let next = are_groups_free later (digits (map radix_of later) (rest % v))
-    (put_group g (rest / v) cells) in
-    sym (ap (λ b. b && next) (ap (λ v. is_group_free g (rest / v) cells) (sym a.weight) ∙ free))
-    ∙ sym (ap (λ xs. are_groups_free xs (digits (map radix_of xs) rest) cells) a.is)
+    let next = are_loose_free later (digits (map radix_of later) (rest % v))
+    (put_if_loose g (rest / v) cells) in
+    sym (ap (λ b. b && next) (ap (λ v. is_free_if_loose g (rest / v) cells) (sym a.weight) ∙ free))
+    ∙ sym (ap (λ xs. are_loose_free xs (digits (map radix_of xs) rest) cells) a.is)
 
 pub free_end : (gs : List GroupLine) (i rest : ℕ) (cells : List ℕ) → length gs ≤ i →
-    true ≡ are_groups_free (drop i gs) (digits (map radix_of (drop i gs)) rest) cells
+    true ≡ are_loose_free (drop i gs) (digits (map radix_of (drop i gs)) rest) cells
 free_end gs i rest cells h =
-    sym (ap (λ xs. are_groups_free xs (digits (map radix_of xs) rest) cells) (drop_end gs i h))
+    sym (ap (λ xs. are_loose_free xs (digits (map radix_of xs) rest) cells) (drop_end gs i h))
 
 -- the place of a number in what is left of a list
 pub place_here : (xs : List ℕ) (i t : ℕ) → i < length xs → t ≡ get_or xs i 0 →

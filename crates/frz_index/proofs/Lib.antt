@@ -1,4 +1,7 @@
+pub mod AnyOrder
+pub mod FixedFirst
 pub mod Lemmas
+pub mod SoundShapes
 pub mod Soundness
 pub mod Turns
 pub mod Filling

@@ -16,10 +16,14 @@ use Rattle.frz_index.proofs.RoomForMen.{any_at, any_found, same_man}
 use Rattle.frz_sets.specs.Views.{GroupLine, RuleLines}
 use Rattle.frz_sets.specs.Sound.{AreSoundAfter, AreStates, IsSound}
 use Rattle.frz_sets.proofs.Lemmas.{counted, few_groups}
-use Rattle.frz_index.specs.Kept.{AreApart, AreNumberable}
+use Rattle.frz_index.specs.Kept.{AreApart, AreNumberable, AreSoundGroups}
 
 pub numberable : (r : RuleLines) → IsSound r → AreNumberable r.groups
 numberable r h = record { groups = counted r h.lines; few = few_groups r h.lines; size = h.size }
+
+pub sound_groups : (r : RuleLines) → IsSound r → AreSoundGroups r.groups
+sound_groups r h =
+    record { groups = h.lines.groups; white_king = h.white_king; black_king = h.black_king }
 
 states_after : (earlier groups : List GroupLine) → AreSoundAfter earlier groups →
     AllByRecursion (λ (g : GroupLine). AreStates g.states) groups

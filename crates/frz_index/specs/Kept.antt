@@ -1,12 +1,15 @@
 -- What a set keeps of its groups.
 use Rattle.std.specs.Prelude.{ℕ, suc, ◌+◌, ◌≡◌, ◌<◌, ◌≤◌, Bool, false, true, ◌||◌, ◌==◌, List, [], ◌∷◌, drop, length, map, slice_index}
 use Rattle.frz_combinations.specs.MixedRadix.{product}
+use Rattle.frz_board.specs.declared.man.Colour.TheVariants.{White, Black}
+use Rattle.frz_sets.specs.Groups.{has_king_group}
 use Rattle.frz_sets.specs.Views.{GroupLine}
-use Rattle.frz_sets.specs.Sound.{AreCounted, AreStates}
+use Rattle.frz_sets.specs.Sound.{AreCounted, AreSoundAfter, AreStates}
 use Rattle.frz_sets.specs.declared.limits.TheConstants.{MOST_GROUPS, MOST_NUMBERS, MOST_STATES}
 use Rattle.frz_index.specs.declared.plan.Plan.{Plan}
 use Rattle.frz_squares.specs.SquareSets.{set_of}
 use Rattle.frz_index.specs.Charts.{AreCharts}
+use Rattle.frz_index.specs.FixedBoards.{AreFixedBoards}
 use Rattle.frz_index.specs.Shares.{AreShares}
 use Rattle.frz_sets.specs.Sets.{has_state, is_state, radix_of, size_of, targets}
 
@@ -44,10 +47,17 @@ abbrev pub AreApart : List GroupLine → Type 0
 AreApart [] = Unit {0}
 AreApart (g ∷ gs) = IsApart g gs × AreApart gs
 
+-- each group is sound behind the earlier ones, and each side has a king group
+pub record AreSoundGroups (gs : List GroupLine) : Type 0 where
+  pub groups : AreSoundAfter [] gs
+  pub white_king : has_king_group gs White ≡ true
+  pub black_king : has_king_group gs Black ≡ true
+
 -- what is kept is right: the weights, the numbers of all groups, the targets, the known squares,
--- the charts, what each man adds on each square, and the rows of binomials up to 384; and each
--- state is of one group alone
+-- the charts, what each man adds on each square, the rows of binomials up to 384, and the boards of
+-- the fixed men; and each state is of one group alone
 pub record IsPlan (plan : Plan) : Type 0 where
+  pub sound : AreSoundGroups plan.groups.items
   pub numberable : AreNumberable plan.groups.items
   pub apart : AreApart plan.groups.items
   pub weights_are : AreWeights plan.groups.items plan.weights.items
@@ -57,3 +67,4 @@ pub record IsPlan (plan : Plan) : Type 0 where
   pub charts_are : AreCharts plan.groups.items plan.charts.items
   pub shares_are : AreShares plan.groups.items plan.shares.items
   pub rows_are : plan.triangle ≡ MOST_STATES + 1
+  pub fixed_are : AreFixedBoards plan.groups.items plan.fixed

@@ -4,6 +4,8 @@ pub mod Members
 pub mod Partners
 pub mod Membership
 pub mod Candidates
+pub mod FixedBoards
+pub mod FixedMen
 pub mod FreeSquares
 pub mod Charts
 pub mod Kept

@@ -4,16 +4,15 @@ ghost use Rattle.std.specs.List.{AllByRecursion};
 ghost use Rattle.frz_combinations.specs.MixedRadix.{digits, value};
 ghost use Rattle.frz_sets.specs.Sets.{radix_of};
 ghost use Rattle.frz_index.specs.Places.{AreCovered, IsWithinCount, digit_of};
-ghost use Rattle.frz_index.specs.Candidates.{put_groups};
-ghost use Rattle.frz_index.specs.FreeSquares.{are_groups_free};
+ghost use Rattle.frz_index.specs.FixedMen.{are_loose_free, put_loose as with_loose};
 ghost use Rattle.frz_index.specs.Charts.{AreCharts};
 ghost use Rattle.frz_index.specs.Kept.{AreNumberable, AreWeights};
 ghost use Rattle.frz_sets.specs.declared.limits.TheConstants.{MOST_STATES};
 
 use crate::chart::Chart;
 use crate::digit::digit;
-use crate::placing::put;
-use crate::quotient::{left_over, quotient};
+use crate::fixed::put_if_loose;
+use crate::quotient::left_over;
 use frz_combinations::Triangle;
 use frz_fide::Bitboards;
 use frz_sets::Group;
@@ -48,9 +47,9 @@ pub(crate) fn number_of_digits(
     Some((total, covered))
 }
 
-/// Puts on the board the men that the digits of this number stand for. It stops at the first man
-/// whose square is not empty, and answers `false`; it answers `true` if all could be put.
-pub(crate) fn put_all(
+/// Puts on the board the loose men that the digits of this number stand for. It stops at the first
+/// man whose square is not empty, and answers `false`; it answers `true` if all could be put.
+pub(crate) fn put_loose(
     p: &mut Bitboards,
     triangle: &Triangle,
     groups: &[Group],
@@ -61,18 +60,17 @@ pub(crate) fn put_all(
     requires weights { AreWeights groups.now weights.now }
     requires rows { triangle.now ≡ MOST_STATES + 1 }
     ensures free { result
-        ≡ are_groups_free groups.now (digits (map radix_of groups.now) number) p.old.cells }
+        ≡ are_loose_free groups.now (digits (map radix_of groups.now) number) p.old.cells }
     ensures put { result ≡ true → p.new ≡
         record p.old {
-          cells = put_groups groups.now (digits (map radix_of groups.now) number)
+          cells = with_loose groups.now (digits (map radix_of groups.now) number)
               p.old.cells;
         } }
 {
     let mut rest = number;
     for i in 0..groups.len() {
-        let group = &groups[i];
         let weight = weights[i];
-        if !put(p, triangle, group, quotient(rest, weight)) {
+        if !put_if_loose(p, triangle, &groups[i], rest, weight) {
             return false;
         }
         rest = left_over(rest, weight);

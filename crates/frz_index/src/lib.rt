@@ -10,6 +10,7 @@ mod beside;
 mod chart;
 mod digit;
 mod digits;
+mod fixed;
 pub mod laws;
 mod old;
 mod placing;

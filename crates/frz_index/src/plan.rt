@@ -8,6 +8,7 @@ ghost use Rattle.frz_squares.specs.SquareSets.{set_of};
 ghost use Rattle.frz_index.specs.Kept.{AreKnown, AreNumberable, AreWeights, IsPlan, is_known, product_from as product_of};
 
 use crate::chart::{Chart, chart_of};
+use crate::fixed::{FixedBoards, fixed_boards};
 use crate::shares::{Share, shares_of};
 use frz_board::Square;
 use frz_combinations::Triangle;
@@ -31,6 +32,8 @@ pub(crate) struct Plan {
     /// At 64 * cell + square, what this man adds to a number there, where one group alone tells it.
     pub shares: Vec<Option<Share>>,
     pub triangle: Triangle,
+    /// The boards with the men that stand on the same squares in each number.
+    pub fixed: Option<FixedBoards>,
 }
 
 impl Drop for Plan {
@@ -44,6 +47,7 @@ impl Drop for Plan {
             charts: _,
             shares: _,
             triangle: _,
+            fixed: _,
         } = self;
     }
 }
@@ -162,6 +166,7 @@ pub(crate) fn plan_of(alloc: Global, r: &Rules) -> Result<Plan, AllocError>
     let known_squares = known_squares_of(&groups);
     let charts = charts_of(alloc, &groups)?;
     let shares = shares_of(alloc, &groups, &charts, &weights)?;
+    let fixed = fixed_boards(&triangle, &groups);
     Ok(Plan {
         groups,
         weights,
@@ -171,5 +176,6 @@ pub(crate) fn plan_of(alloc: Global, r: &Rules) -> Result<Plan, AllocError>
         charts,
         shares,
         triangle,
+        fixed,
     })
 }

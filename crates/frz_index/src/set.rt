@@ -1,5 +1,5 @@
 //! The set of positions that the groups of some rules describe.
-ghost use Rattle.std.specs.Prelude.{◌≡◌, ◌↔◌, ◌<◌, ◌≤◌, IfOk, IfSome, IsNone, IsSome, MatchOption, None, Some, ◌/◌, false, map, true};
+ghost use Rattle.std.specs.Prelude.{◌≡◌, ◌↔◌, ◌<◌, ◌≤◌, IfOk, IfSome, IsNone, IsSome, IsTrue, MatchOption, None, Some, ◌/◌, false, map, true};
 ghost use Rattle.frz_board.specs.Boards.{Board, is_empty, man_on};
 ghost use Rattle.frz_board.specs.Men.{cell_of_man};
 ghost use Rattle.frz_board.specs.declared.man.Colour.TheVariants.{White};
@@ -11,10 +11,10 @@ ghost use Rattle.frz_sets.specs.Sets.{radix_of, size_of, targets};
 ghost use Rattle.frz_sets.specs.Sound.{IsSound};
 ghost use Rattle.frz_squares.specs.SquareSets.{set_of};
 ghost use Rattle.frz_sets.specs.declared.limits.TheConstants.{MOST_NUMBERS};
-ghost use Rattle.frz_index.specs.Members.{Broken, HasNumber, Member, Num};
+ghost use Rattle.frz_index.specs.Members.{Broken, HasNumber, HasShape, Member, Num};
 ghost use Rattle.frz_index.specs.Partners.{with_black};
 ghost use Rattle.frz_index.specs.Membership.{number_of, position_at};
-ghost use Rattle.frz_index.specs.Candidates.{candidate, no_men};
+ghost use Rattle.frz_index.specs.Candidates.{candidate};
 ghost use Rattle.frz_index.specs.FreeSquares.{is_spread};
 ghost use Rattle.frz_index.specs.Kept.{IsPlan, is_known};
 ghost use Rattle.frz_index.specs.Leaving.{leaves};
@@ -26,13 +26,14 @@ ghost use Rattle.frz_index.specs.Taking.{IsCountedTaking, IsTaking};
 use crate::across::{arriving, number_after_taking_in, stepping_man, taking_men};
 use crate::among::number_after_step_in;
 use crate::beside::number_beside_in;
-use crate::digits::{number_of_digits, put_all};
+use crate::digits::{number_of_digits, put_loose};
+use crate::fixed::fixed_board;
 use crate::plan::{Plan, plan_of};
 use crate::quotient::{left_over, quotient};
 use crate::room::{any_takes_one_more, any_unfilled};
 use crate::turn::{turn_at, turn_number};
-use frz_board::{Colour, Man, Move, NoMemory, Position, Square, cell_of};
-use frz_fide::{Bitboards, contains, valid_boards, without};
+use frz_board::{Colour, Man, Move, NoMemory, Position, Square, cell_of, target_in_place};
+use frz_fide::{Bitboards, contains, without};
 use frz_sets::Rules;
 use std::alloc::Global;
 use std::marker::Model;
@@ -85,13 +86,6 @@ fn number_in(plan: &Plan, p: &Bitboards) -> Option<u32>
     Some(turn * plan.whole + digits)
 }
 
-#[tactic(auto, unfolding(crate::specs::Candidates::no_men))]
-fn empty_board(turn: Colour, ep: Option<Square>) -> Bitboards
-    ensures { result ≡ record { cells = no_men; turn = turn; ep = ep } }
-{
-    Bitboards::empty(turn, ep)
-}
-
 /// The side to move and the en passant target that a number stands for.
 fn turn_state_in(plan: &Plan, i: u32) -> (Colour, Option<Square>)
     requires { IsPlan plan.now }
@@ -110,13 +104,22 @@ fn candidate_in(plan: &Plan, i: u32) -> Option<Bitboards>
         (λ p. (is_spread gs i ≡ true) × (p ≡ candidate gs i)) }
 {
     let (turn, ep) = turn_state_in(plan, i);
-    let mut p = empty_board(turn, ep);
+    let mut p = fixed_board(&plan.fixed, turn, ep)?;
     let rest = left_over(i, plan.whole);
-    if put_all(&mut p, &plan.triangle, &plan.groups, &plan.weights, rest) {
+    if put_loose(&mut p, &plan.triangle, &plan.groups, &plan.weights, rest) {
         Some(p)
     } else {
         None
     }
+}
+
+/// Is the position, which has the shape of a valid one, valid? Its target must be in place, and the
+/// king of the side not to move not attacked.
+fn is_valid_in_shape(p: &Bitboards) -> bool
+    requires { HasShape p.now }
+    ensures { IsTrue result ↔ IsValid p.now }
+{
+    target_in_place(p.as_position()) && !p.is_in_check(p.turn().other())
 }
 
 /// The side to move of a number's turn state.
@@ -334,7 +337,8 @@ impl Set {
     /// if the number is not below the size, or two men would stand on one square: it is broken.
     fn candidate(&self, i: u32) -> Option<Bitboards>
         ensures { MatchOption result (Broken self.now i)
-            (λ p. (p ≡ candidate self.now i) × (IsValid p ↔ HasNumber self.now i p)) }
+            (λ p. (p ≡ candidate self.now i) × (IsValid p ↔ HasNumber self.now i p)
+            × HasShape p) }
     {
         if i < self.size() {
             candidate_in(&self.plan, i)
@@ -365,10 +369,7 @@ impl Set {
     {
         match self.candidate(i) {
             None => None,
-            Some(p) => match valid_boards(&p) {
-                Err(_) => None,
-                Ok(()) => Some(p),
-            },
+            Some(p) => { if is_valid_in_shape(&p) { Some(p) } else { None } }
         }
     }
 

@@ -11,5 +11,6 @@ pub mod Whole
 pub mod StepsBack
 pub mod StepsValid
 pub mod StepsSafe
+pub mod StepsTarget
 pub mod StepsTold
 mod QuietOrigins

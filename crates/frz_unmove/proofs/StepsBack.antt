@@ -24,7 +24,8 @@ use Rattle.frz_sets.specs.Views.{GroupLine}
 use Rattle.frz_unmove.specs.Earlier.{before, mover_cell, name}
 use Rattle.frz_unmove.specs.Quiet.{IsQuietBack}
 
-no_pawn : (d c : Colour) (k : Kind) → is_pawn k ≡ false →
+-- a piece is no pawn
+pub no_pawn : (d c : Colour) (k : Kind) → is_pawn k ≡ false →
     (cell_of_man (record { colour = c; kind = k }) == pawn d) ≡ false
 no_pawn White White King e = refl
 no_pawn White White Queen e = refl

@@ -1,6 +1,6 @@
 -- The position before or after a step of a valid one is valid, where the king of the side that is
 -- not to move then is not attacked.
-use Rattle.std.proofs.Common.{◌≡◌, ◌≢◌, ℕ, ◌<◌, Bool, true, false, cond, ◌&&◌, ◌||◌, List, Option, None, length, slice_index, slice_set, length-set, get_or-set_other, refl, ap, sym, ◌∙◌, arith, inl, inr}
+use Rattle.std.proofs.Common.{◌≡◌, ◌≢◌, ℕ, ◌<◌, Bool, true, false, cond, ◌&&◌, ◌||◌, List, Option, length, slice_index, slice_set, length-set, get_or-set_other, refl, ap, sym, ◌∙◌, arith, inl, inr}
 use Rattle.std.specs.Prelude.{◌==◌, count_by, nat_le, not}
 use Rattle.std.proofs.lemmas.Bool.{cases_eq}
 use Rattle.std.proofs.lemmas.List.Elements.{All-set}
@@ -122,12 +122,9 @@ module _ (q : Board) (man : Man) (a b : ℕ) (target : Option ℕ) (h : IsStep q
         ]
       ])
 
-  in_place : target ≡ None → has_target_in_place p ≡ true
-  unfolding has_target_in_place
-  in_place none = ap (λ o. has_target_in_place (stepped q man a b o)) none
-
-  pub valid_step : target ≡ None → is_in_check p (other_of p.turn) ≡ false → IsValid p
-  valid_step none safe = record {
+  pub valid_step : has_target_in_place p ≡ true → is_in_check p (other_of p.turn) ≡ false →
+      IsValid p
+  valid_step placed safe = record {
     fits = record {
       size = rw (length-set, length-set) v.fits.size;
       men = All-set (λ c. c < 13) (slice_set q.cells a 0) b (cell_of_man man)
@@ -137,6 +134,6 @@ module _ (q : Board) (man : Man) (a b : ℕ) (target : Option ℕ) (h : IsStep q
     kings = kings;
     pawns = pawns;
     men = men;
-    target = in_place none;
+    target = placed;
     safe = safe;
   }

@@ -1,6 +1,6 @@
 -- The moves that lead to a position, kind by kind: where they end, what the man has become, what it
 -- took, the earlier target, and where they begin.
-use Rattle.std.specs.Prelude.{ℕ, ◌≡◌, ◌+◌, ◌<◌, ◌==◌, ◌&&◌, ◌||◌, Bool, true, List, Option, None, Some, slice_index}
+use Rattle.std.specs.Prelude.{ℕ, ◌≡◌, ◌+◌, ◌<◌, ◌==◌, ◌&&◌, ◌||◌, Bool, true, List, Option, None, Some, IfSome, slice_index}
 use Rattle.std.specs.List.{list_any}
 use Rattle.frz_board.specs.declared.man.Colour.{Colour}
 use Rattle.frz_board.specs.declared.man.Colour.TheVariants.{White, Black}
@@ -15,7 +15,9 @@ use Rattle.frz_sets.specs.Sets.{targets}
 use Rattle.frz_sets.specs.Views.{GroupLine}
 use Rattle.frz_index.specs.Members.{HasNumber}
 use Rattle.frz_index.specs.Candidates.{candidate}
+use Rattle.frz_unmove.specs.declared.gathering.End.{End}
 use Rattle.frz_unmove.specs.declared.preds.Pred.{Pred}
+use Rattle.frz_unmove.specs.Quiet.{IsReady}
 
 -- x is the number of a position of the set, with a legal move from there that leads to q
 pub record Comes (gs : List GroupLine) (q : Board) (x : Pred) : Type 0 where
@@ -87,3 +89,7 @@ may_be_target gs q b t = list_any (λ y. t == y) (targets gs) && may_have_stood 
 -- the bitboard of the set's targets that may have stood before a move to this square
 abbrev pub IsTargetWord : List GroupLine → Board → ℕ → ℕ → Type 0
 IsTargetWord gs q b word = (t : ℕ) → t < 64 → has_square word t ≡ may_be_target gs q b t
+
+-- a man is ready only where the move took nothing and promoted nothing
+abbrev pub IsReadyEnd : Board → End → Type 0
+IsReadyEnd q e = IfSome e.ready (λ r. IsReady q e.to r × (e.taken ≡ 0) × (e.promo ≡ None))

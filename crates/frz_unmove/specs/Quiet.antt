@@ -1,10 +1,11 @@
 -- A move taken back that took nothing and is no pawn's.
-use Rattle.std.specs.Prelude.{ℕ, ◌≡◌, ◌<◌, ◌&&◌, Bool, true, false, not, None, Some, slice_set}
+use Rattle.std.specs.Prelude.{ℕ, ◌≡◌, ◌<◌, ◌==◌, ◌&&◌, ◌||◌, Bool, true, false, not, Option, None, Some, slice_set}
 use Rattle.frz_board.specs.declared.man.Kind.TheVariants.{King}
 use Rattle.frz_board.specs.Attacks.{is_in_check, reaches}
 use Rattle.frz_unmove.specs.declared.quiet.Ready.{Ready}
 use Rattle.frz_board.specs.declared.man.Man.{Man}
 use Rattle.frz_board.specs.Boards.{Board, has, holds, is_empty, man_on}
+use Rattle.frz_board.specs.EnPassant.{ahead, is_passed}
 use Rattle.frz_board.specs.Men.{is_pawn, other_of}
 use Rattle.frz_board.specs.Moving.{Step}
 
@@ -29,13 +30,22 @@ pub record IsPieceAt (q : Board) (to : ℕ) (man : Man) : Type 0 where
 -- is not attacked, and that king's square
 pub record IsReady (q : Board) (to : ℕ) (ready : Ready) : Type 0 where
   pub there : IsPieceAt q to ready.man
-  pub bare_is : ready.bare ≡ record q { cells = slice_set q.cells to 0 }
-  pub safe : is_in_check ready.bare q.turn ≡ false
+  pub bare_is : ready.bare.now ≡ record q { cells = slice_set q.cells to 0 }
+  pub safe : is_in_check ready.bare.now q.turn ≡ false
   pub on_board : ready.king < 64
   pub king_is : has q q.turn King ready.king ≡ true
 
--- from this square the man has an open way to the other, and none to the king
-abbrev pub is_quiet_origin : Ready → ℕ → ℕ → Bool
-is_quiet_origin ready to a =
-    reaches ready.bare ready.man.colour ready.man.kind a to
-    && not (reaches ready.bare ready.man.colour ready.man.kind a ready.king)
+-- the target was in place while the man stood on this square: a pawn of the side to move had passed
+-- over it on the board without him, and he stood on neither of the squares that it passed
+abbrev pub keeps_target : Board → Option ℕ → ℕ → Bool
+keeps_target bare None a = true
+keeps_target bare (Some t) a =
+    is_passed bare bare.turn t && not (a == t || a == ahead (other_of bare.turn) t)
+
+-- from this square, where he stood while this was the target, the man has an open way to the other,
+-- and none to the king
+abbrev pub is_quiet_origin : Ready → Option ℕ → ℕ → ℕ → Bool
+is_quiet_origin ready target to a =
+    (reaches ready.bare.now ready.man.colour ready.man.kind a to
+    && not (reaches ready.bare.now ready.man.colour ready.man.kind a ready.king))
+    && keeps_target ready.bare.now target a

@@ -10,12 +10,12 @@ ghost use Rattle.frz_index.specs.Room.{has_room};
 ghost use Rattle.frz_unmove.specs.Earlier.{mover_cell as cell_of_mover};
 ghost use Rattle.frz_unmove.specs.Quiet.{IsQuietBack, IsReady, is_quiet_origin};
 ghost use Rattle.frz_unmove.specs.Adding.{Adds};
-ghost use Rattle.frz_unmove.specs.Gathering.{Comes, ComesAs, ComesAt, ComesFrom, ComesTaking, ComesTo, HasOrigins, IsTargetWord, first_taken as first_taken_of};
+ghost use Rattle.frz_unmove.specs.Gathering.{Comes, ComesAs, ComesAt, ComesFrom, ComesTaking, ComesTo, HasOrigins, IsReadyEnd, IsTargetWord, first_taken as first_taken_of};
 
 use crate::earlier::number_before;
 use crate::origins::origins;
 use crate::preds::{Pred, Preds};
-use crate::quiet::{Ready, number_by_lines, quiet_origins, ready_for};
+use crate::quiet::{Ready, moved_piece, number_by_lines, quiet_origins, ready_on};
 use crate::targets::earlier_targets;
 use frz_bits::{Bitboards, next_square};
 use frz_board::{Colour, Kind, Man, Move, Square, man_of};
@@ -50,109 +50,147 @@ fn add_named(
     }
 }
 
-/// Adds the move of the man of `ready`, which took nothing, if the set has the position before it.
-fn add_step(set: &Set, at: u32, q: &Bitboards, m: Move, ready: &Ready, out: &mut Preds)
+/// Adds the move of the man of `ready`, which took nothing and had this earlier target, if the set
+/// has the position before it.
+fn add_step(
+    set: &Set,
+    at: u32,
+    q: &Bitboards,
+    m: Move,
+    ready: &Ready<'_>,
+    target: &Option<Square>,
+    out: &mut Preds,
+)
     requires number { HasNumber set.now at q.now }
     requires quiet { IsQuietBack q.now m 0 ready.now.man }
     requires ready { IsReady q.now m.to ready.now }
-    requires origin { is_quiet_origin ready.now m.to m.from ≡ true }
+    requires origin { is_quiet_origin ready.now target.now m.to m.from ≡ true }
     requires room { length out.old + 1 ≤ 131072 }
-    ensures { Adds (ComesFrom set.now q.now m 0 None) out.old out.new 1 }
+    ensures { Adds (ComesFrom set.now q.now m 0 target.now) out.old out.new 1 }
 {
-    if let Some(number) = number_by_lines(set, at, q, m, ready) {
+    if let Some(number) = number_by_lines(set, at, q, m, ready, target) {
         out.push(Pred { number, mv: m });
     }
 }
 
-/// Adds the moves of the man of `ready` from the squares `origins` that took nothing.
+/// Adds the moves of the man of `ready` from the squares `origins` that took nothing and had this
+/// earlier target.
 fn add_steps(
     set: &Set,
     at: u32,
     q: &Bitboards,
     to: Square,
     origins: u64,
-    ready: &Ready,
+    ready: &Ready<'_>,
+    target: &Option<Square>,
     out: &mut Preds,
 )
     requires number { HasNumber set.now at q.now }
     requires ready { IsReady q.now to ready.now }
     requires origins { HasOrigins set.now q.now to None origins }
     requires room { length out.old + 64 ≤ 131072 }
-    ensures { Adds (ComesAt set.now q.now to None 0 None) out.old out.new 64 }
+    ensures { Adds (ComesAt set.now q.now to None 0 target.now) out.old out.new 64 }
 {
-    let quiet = quiet_origins(q, ready, to, origins);
+    let quiet = quiet_origins(q, ready, to, target, origins);
     let promo = None;
     let mut n = 0;
     while let Some(from) = next_square(quiet, n) {
-        add_step(set, at, q, Move { from, to, promo }, ready, out);
+        add_step(set, at, q, Move { from, to, promo }, ready, target, out);
         n = from.number() + 1;
     }
 }
 
-/// Adds the moves from the squares `origins` that took the cell `taken` and had this earlier
-/// target. Each position before such a move is tested.
+/// The end of a move: where it arrived, what a pawn became there, the cell of what it took there (0
+/// for nothing), and the man that can be taken back by words, if one can.
+#[derive(Drop)]
+struct End<'a> {
+    to: Square,
+    promo: Option<Kind>,
+    taken: u8,
+    ready: Option<Ready<'a>>,
+}
+
+/// Adds the moves with this end from the squares `origins` that had this earlier target. Each
+/// position before such a move is tested.
 fn add_tested(
     set: &Set,
     at: u32,
     q: &Bitboards,
-    arrival: &Arrival,
+    end: &End<'_>,
     origins: u64,
-    taken: u8,
     target: &Option<Square>,
     out: &mut Preds,
 )
-    requires promo { is_promotion arrival.now.promo ≡ true }
-    requires taken { taken ≤ 12 }
-    requires origins { HasOrigins set.now q.now arrival.now.to arrival.now.promo origins }
+    requires promo { is_promotion end.now.promo ≡ true }
+    requires taken { end.now.taken ≤ 12 }
+    requires origins { HasOrigins set.now q.now end.now.to end.now.promo origins }
     requires number { HasNumber set.now at q.now }
     requires valid { IsValid q.now }
     requires room { length out.old + 64 ≤ 131072 }
-    ensures { Adds (ComesAt set.now q.now arrival.now.to arrival.now.promo taken target.now)
+    ensures { Adds (ComesAt set.now q.now end.now.to end.now.promo end.now.taken target.now)
         out.old out.new 64 }
 {
+    let to = end.to;
+    let promo = end.promo;
     let mut n = 0;
     while let Some(from) = next_square(origins, n) {
-        add_named(
-            set,
-            at,
-            q,
-            Move {
-                from,
-                to: arrival.to,
-                promo: arrival.promo,
-            },
-            taken,
-            target,
-            out,
-        );
+        add_named(set, at, q, Move { from, to, promo }, end.taken, target, out);
         n = from.number() + 1;
     }
 }
 
-/// Adds the moves from the squares `origins` that took the cell `taken` and had this earlier
-/// target.
+/// Adds the moves with this end from the squares `origins` that had this earlier target.
 fn add_at(
     set: &Set,
     at: u32,
     q: &Bitboards,
-    arrival: &Arrival,
+    end: &End<'_>,
     origins: u64,
-    taken: u8,
     target: &Option<Square>,
     out: &mut Preds,
 )
-    requires promo { is_promotion arrival.now.promo ≡ true }
-    requires taken { taken ≤ 12 }
-    requires origins { HasOrigins set.now q.now arrival.now.to arrival.now.promo origins }
+    requires promo { is_promotion end.now.promo ≡ true }
+    requires taken { end.now.taken ≤ 12 }
+    requires ready { IsReadyEnd q.now end.now }
+    requires origins { HasOrigins set.now q.now end.now.to end.now.promo origins }
     requires number { HasNumber set.now at q.now }
     requires valid { IsValid q.now }
     requires room { length out.old + 64 ≤ 131072 }
-    ensures { Adds (ComesAt set.now q.now arrival.now.to arrival.now.promo taken target.now)
+    ensures { Adds (ComesAt set.now q.now end.now.to end.now.promo end.now.taken target.now)
         out.old out.new 64 }
 {
-    match ready_for(q, arrival.to, arrival.promo, taken, target) {
-        Some(ready) => add_steps(set, at, q, arrival.to, origins, &ready, out),
-        None => add_tested(set, at, q, arrival, origins, taken, target, out),
+    match &end.ready {
+        Some(ready) => add_steps(set, at, q, end.to, origins, ready, target, out),
+        None => add_tested(set, at, q, end, origins, target, out),
+    }
+}
+
+/// Adds the moves with this end: those without an earlier target, and those with each of `targets`.
+fn add_each(
+    set: &Set,
+    at: u32,
+    q: &Bitboards,
+    end: &End<'_>,
+    origins: u64,
+    targets: u64,
+    out: &mut Preds,
+)
+    requires promo { is_promotion end.now.promo ≡ true }
+    requires taken { end.now.taken ≤ 12 }
+    requires ready { IsReadyEnd q.now end.now }
+    requires origins { HasOrigins set.now q.now end.now.to end.now.promo origins }
+    requires targets { IsTargetWord set.now q.now end.now.to targets }
+    requires number { HasNumber set.now at q.now }
+    requires valid { IsValid q.now }
+    requires room { length out.old + 576 ≤ 131072 }
+    ensures { Adds (ComesTaking set.now q.now end.now.to end.now.promo end.now.taken)
+        out.old out.new 576 }
+{
+    add_at(set, at, q, end, origins, &None, out);
+    let mut n = 0;
+    while let Some(t) = next_square(targets, n) {
+        add_at(set, at, q, end, origins, &Some(t), out);
+        n = t.number() + 1;
     }
 }
 
@@ -178,11 +216,30 @@ fn add_taking(
     ensures { Adds (ComesTaking set.now q.now arrival.now.to arrival.now.promo taken)
         out.old out.new 576 }
 {
-    add_at(set, at, q, arrival, origins, taken, &None, out);
-    let mut n = 0;
-    while let Some(t) = next_square(targets, n) {
-        add_at(set, at, q, arrival, origins, taken, &Some(t), out);
-        n = t.number() + 1;
+    let to = arrival.to;
+    let promo = arrival.promo;
+    match moved_piece(q, to, promo, taken) {
+        Some(man) => {
+            let bare = q.put(to, 0);
+            let ready = ready_on(q, to, man, &bare);
+            let end = End {
+                to,
+                promo,
+                taken,
+                ready,
+            };
+            add_each(set, at, q, &end, origins, targets, out);
+        }
+        None => {
+            let ready = None;
+            let end = End {
+                to,
+                promo,
+                taken,
+                ready,
+            };
+            add_each(set, at, q, &end, origins, targets, out);
+        }
     }
 }
 

@@ -1,5 +1,5 @@
 //! The position before a move that took nothing and was no pawn's, and its number.
-ghost use Rattle.std.specs.Prelude.{◌≡◌, ◌↔◌, ◌<◌, ◌&&◌, IfSome, None, Some, false, true, ℕ};
+ghost use Rattle.std.specs.Prelude.{◌≡◌, ◌↔◌, ◌<◌, ◌&&◌, IfSome, None, Some, false, slice_set, true, ℕ};
 ghost use Rattle.frz_board.specs.Attacks.{reaches};
 ghost use Rattle.frz_board.specs.Boards.{is_empty};
 ghost use Rattle.frz_board.specs.Men.{is_pawn};
@@ -8,10 +8,10 @@ ghost use Rattle.frz_fide.specs.Valid.{IsValid};
 ghost use Rattle.frz_index.specs.Members.{HasNumber};
 ghost use Rattle.frz_index.specs.Stepping.{stepped};
 ghost use Rattle.frz_squares.specs.SquareSets.{has_square};
-ghost use Rattle.frz_unmove.specs.Quiet.{IsPieceAt, IsQuietBack, IsReady, is_quiet_origin};
+ghost use Rattle.frz_unmove.specs.Quiet.{IsPieceAt, IsQuietBack, IsReady, is_quiet_origin, keeps_target};
 
 use crate::earlier::is_valid;
-use frz_bits::{Bitboards, next_square, without};
+use frz_bits::{Bitboards, next_square, replaced, without};
 use frz_board::{Kind, Man, Move, Square, cell_of};
 use frz_index::Set;
 
@@ -50,9 +50,9 @@ fn back(q: &Bitboards, man: Man, from: Square, to: Square, target: &Option<Squar
 /// The man that has moved, the board without him, and the square of the king of the side to move,
 /// which is not attacked on that board.
 #[derive(Drop)]
-pub(crate) struct Ready {
+pub(crate) struct Ready<'a> {
     pub man: Man,
-    pub bare: Bitboards,
+    pub bare: &'a Bitboards,
     pub king: Square,
 }
 
@@ -72,83 +72,107 @@ fn piece_at(q: &Bitboards, to: Square) -> Option<Man>
     }
 }
 
-/// The board without the man on the square. `None` if the king of the side to move is then
-/// attacked.
-fn bared(q: &Bitboards, to: Square, mover: Man) -> Option<Ready>
-    requires { IsPieceAt q.now to mover }
+/// The man on the square, ready to be taken back. `bare` is the board without him. `None` if the
+/// king of the side to move is attacked on it.
+pub(crate) fn ready_on<'a>(
+    q: &Bitboards,
+    to: Square,
+    man: Man,
+    bare: &'a Bitboards,
+) -> Option<Ready<'a>>
+    requires piece { IsPieceAt q.now to man }
+    requires bare { bare.now ≡ record q.now { cells = slice_set q.now.cells to 0 } }
     ensures { IfSome result (λ r. IsReady q.now to r) }
 {
-    let bare = q.put(to, 0);
     if bare.is_in_check(q.turn()) {
         return None;
     }
-    let man = Man {
-        colour: q.turn(),
-        kind: Kind::King,
-    };
-    let king = next_square(q.men(man), 0)?;
-    Some(Ready {
-        man: mover,
-        bare,
-        king,
-    })
+    let colour = q.turn();
+    let kind = Kind::King;
+    let king = next_square(q.men(Man { colour, kind }), 0)?;
+    Some(Ready { man, bare, king })
 }
 
-/// `bared`, for moves to the square that took nothing, promoted nothing and are no pawn's, with no
-/// en passant target before or after them. `None` for all others.
-pub(crate) fn ready_for(
-    q: &Bitboards,
-    to: Square,
-    promo: Option<Kind>,
-    taken: u8,
-    target: &Option<Square>,
-) -> Option<Ready>
-    ensures ready { IfSome result (λ r. IsReady q.now to r) }
-    ensures plain { IfSome result (λ _. (taken ≡ 0) × (target.now ≡ None) × (promo ≡ None)) }
+/// The man that moved to the square, if the move took nothing, promoted nothing and was no pawn's,
+/// and left no en passant target.
+pub(crate) fn moved_piece(q: &Bitboards, to: Square, promo: Option<Kind>, taken: u8) -> Option<Man>
+    ensures piece { IfSome result (λ man. IsPieceAt q.now to man) }
+    ensures plain { IfSome result (λ _. (taken ≡ 0) × (promo ≡ None)) }
 {
-    if taken != 0 || (target.is_some() || promo.is_some()) {
+    if taken != 0 || promo.is_some() {
         return None;
     }
-    let man = piece_at(q, to)?;
-    bared(q, to, man)
+    piece_at(q, to)
 }
 
-/// Those of `squares` from which the man of `ready` may have gone to his square: they are empty,
-/// and on the board without him he has an open way to it and none to the king.
-pub(crate) fn quiet_origins(q: &Bitboards, ready: &Ready, to: Square, squares: u64) -> u64
+/// Those of `squares` on which the man may have stood while `target` was the en passant target.
+/// `bare` is the board without him.
+fn keeping_target(bare: &Bitboards, target: &Option<Square>, squares: u64) -> u64
+    ensures { (a : ℕ) → a < 64 → has_square result a
+        ≡ (has_square squares a && keeps_target bare.now target.now a) }
+{
+    match target {
+        None => squares,
+        Some(t) => {
+            let passer = bare.turn();
+            let board = bare.as_position();
+            if !board.has_passed(passer, *t) {
+                return 0;
+            }
+            if !board.has_pawn_beside(passer.other(), t.ahead(passer)) {
+                return 0;
+            }
+            replaced(replaced(squares, *t, false), t.ahead(passer.other()), false)
+        }
+    }
+}
+
+/// Those of `squares` from which the man of `ready` may have gone to his square while `target` was
+/// the en passant target: they are empty, and on the board without him he has an open way to it
+/// and none to the king.
+pub(crate) fn quiet_origins(
+    q: &Bitboards,
+    ready: &Ready<'_>,
+    to: Square,
+    target: &Option<Square>,
+    squares: u64,
+) -> u64
     requires { is_pawn ready.now.man.kind ≡ false }
     ensures { (a : ℕ) → a < 64 → has_square result a
-        ≡ (has_square squares a && (is_empty q.now a && is_quiet_origin ready.now to a)) }
+        ≡ (has_square squares a
+        && (is_empty q.now a && is_quiet_origin ready.now target.now to a)) }
 {
     let free = without(squares, q.occupied());
-    let ways = ready.bare.reached(ready.man, to, free);
+    let kept = keeping_target(ready.bare, target, free);
+    let ways = ready.bare.reached(ready.man, to, kept);
     without(ways, ready.bare.reached(ready.man, ready.king, ways))
 }
 
 /// The number of the position before the move from one of the squares that `quiet_origins` gives,
-/// if the set has it. That position has no target, and needs no test.
+/// if the set has it. That position needs no test.
 pub(crate) fn number_by_lines(
     set: &Set,
     at: u32,
     q: &Bitboards,
     m: Move,
-    ready: &Ready,
+    ready: &Ready<'_>,
+    target: &Option<Square>,
 ) -> Option<u32>
     requires number { HasNumber set.now at q.now }
     requires quiet { IsQuietBack q.now m 0 ready.now.man }
     requires ready { IsReady q.now m.to ready.now }
-    requires origin { is_quiet_origin ready.now m.to m.from ≡ true }
+    requires origin { is_quiet_origin ready.now target.now m.to m.from ≡ true }
     ensures step { IsStep m }
-    ensures number { let p = stepped q.now ready.now.man m.to m.from None in
+    ensures number { let p = stepped q.now ready.now.man m.to m.from target.now in
         let man = ready.now.man in
         (i : ℕ) → (result ≡ Some i)
         ↔ (HasNumber set.now i p × (reaches p man.colour man.kind m.from m.to ≡ true)) }
 {
     let _from = m.from.number();
     let _to = m.to.number();
-    match set.number_after_step(at, q, ready.man, m.to, m.from, &None) {
+    match set.number_after_step(at, q, ready.man, m.to, m.from, target) {
         Some(n) => Some(n),
-        None => set.number_beside(at, q, &back(q, ready.man, m.from, m.to, &None)),
+        None => set.number_beside(at, q, &back(q, ready.man, m.from, m.to, target)),
     }
 }
 

@@ -1,12 +1,13 @@
 use Rattle.std.proofs.Common.{List, ap, sym, ◌∙◌, subst}
 use Rattle.frz_sets.specs.Views.{GroupLine, RuleLines}
 use Rattle.frz_sets.specs.Sets.{targets}
-use Rattle.frz_index.specs.Kept.{AreApart, AreKnown, AreNumberable, AreWeights, product_from}
+use Rattle.frz_index.specs.Kept.{AreApart, AreKnown, AreNumberable, AreSoundGroups, AreWeights, product_from}
 use Rattle.std.specs.List.{AllByRecursion}
 use Rattle.frz_sets.specs.Sound.{AreStates}
 use Rattle.frz_index.specs.Charts.{AreCharts}
+use Rattle.frz_index.specs.FixedBoards.{AreFixedBoards}
 use Rattle.frz_index.specs.Shares.{AreShares}
-use Rattle.frz_index.proofs.Soundness.{apart, in_order, numberable}
+use Rattle.frz_index.proofs.Soundness.{apart, in_order, numberable, sound_groups}
 use Rattle.frz_index.proofs.plan.plan_of.Goals as goal
 
 pub weights_of-requires : goal.weights_of-requires
@@ -27,6 +28,7 @@ returns c =
     let same = c.in_ok-groups.ensures ∙ c.deref.ensures.value ∙ ap (λ (r : RuleLines). r.groups)
     c.r.view_is in (
       record {
+        sound = subst AreSoundGroups (sym same) (sound_groups c.args.r.now c.requires);
         numberable = subst AreNumberable (sym same) (numberable c.args.r.now c.requires);
         apart = subst AreApart (sym same) (apart c.args.r.now c.requires);
         weights_are = subst (λ (gs : List GroupLine). AreWeights gs c.in_ok-weights.weights.items)
@@ -41,6 +43,8 @@ returns c =
         shares_are = subst (λ (gs : List GroupLine). AreShares gs c.in_ok-shares.shares.items)
             c.deref-7.ensures.value c.in_ok-shares.ensures;
         rows_are = c.in_ok-triangle.ensures;
+        fixed_are = subst (λ (gs : List GroupLine). AreFixedBoards gs c.fixed_boards-fixed.result)
+            c.deref-10.ensures.value c.fixed_boards-fixed.ensures;
       },
       same,
     )
@@ -57,3 +61,10 @@ shares_of-requires-clause-numberable c =
     let same = c.in_ok-groups.ensures ∙ c.deref.ensures.value ∙ ap (λ (r : RuleLines). r.groups)
     c.r.view_is in
     subst AreNumberable (sym (c.deref-7.ensures.value ∙ same)) (numberable c.args.r.now c.requires)
+
+pub fixed_boards-fixed-requires-clause-numberable :
+    goal.fixed_boards-fixed-requires-clause-numberable
+fixed_boards-fixed-requires-clause-numberable c =
+    let same = c.in_ok-groups.ensures ∙ c.deref.ensures.value ∙ ap (λ (r : RuleLines). r.groups)
+    c.r.view_is in
+    subst AreNumberable (sym (c.deref-10.ensures.value ∙ same)) (numberable c.args.r.now c.requires)

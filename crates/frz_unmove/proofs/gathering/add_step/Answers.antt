@@ -1,4 +1,4 @@
-use Rattle.std.proofs.Common.{◌≡◌, ℕ, None, sym, ap, ◌∙◌}
+use Rattle.std.proofs.Common.{◌≡◌, ℕ, sym, ap, ◌∙◌}
 use Rattle.std.proofs.lemmas.Option.{same_Some}
 use Rattle.frz_board.specs.Moving.{Step}
 use Rattle.frz_unmove.specs.declared.preds.Pred.{Pred}
@@ -16,14 +16,14 @@ returns-in-Some c =
     let i = c.in-Some.number in
     let y : Pred = record { number = i; mv = m } in
     let step = c.number_by_lines.ensures.step in
-    let told = λ (j : ℕ). told_before q m 0 None c.args.ready.now.man
+    let told = λ (j : ℕ). told_before q m 0 c.args.target.now c.args.ready.now.man
     c.requires.number.member.valid step.from step.to c.requires.quiet gs c.number_by_lines.result
     j (c.number_by_lines.ensures.number j) in
     let h = (told i).0 c.in-Some.is in
-    adds_one (ComesFrom gs q m 0 None) c.args.out.now c.push.new.self y c.push.ensures
-    (named gs q m 0 None step i h.0 h.1 h.2)
+    adds_one (ComesFrom gs q m 0 c.args.target.now) c.args.out.now c.push.new.self y c.push.ensures
+    (named gs q m 0 c.args.target.now step i h.0 h.1 h.2)
     (λ x k.
-    let g = of_name gs q m 0 None x k in
+    let g = of_name gs q m 0 c.args.target.now x k in
     let t = (told x.number).1 (g.0, g.1, g.2) in
     let n : x.number ≡ i = same_Some x.number i (sym t ∙ c.in-Some.is) in
     let made : ℕ → Step → Pred = λ n s. record { number = n; mv = s } in
@@ -35,10 +35,10 @@ returns-in_default c =
     let q = c.args.q.now in
     let m = c.args.m in
     let step = c.number_by_lines.ensures.step in
-    adds_none (ComesFrom gs q m 0 None) c.args.out.now 1
+    adds_none (ComesFrom gs q m 0 c.args.target.now) c.args.out.now 1
     (λ x k.
-    let g = of_name gs q m 0 None x k in
-    let told = told_before q m 0 None c.args.ready.now.man
+    let g = of_name gs q m 0 c.args.target.now x k in
+    let told = told_before q m 0 c.args.target.now c.args.ready.now.man
     c.requires.number.member.valid step.from step.to c.requires.quiet gs c.number_by_lines.result
     x.number (c.number_by_lines.ensures.number x.number) in
     c.in_default.not-Some x.number (told.1 (g.0, g.1, g.2)))

@@ -13,11 +13,12 @@ use Rattle.frz_unmove.proofs.gathering.add_steps.Goals.{After-quiet_origins-quie
 
 -- each such move comes from a square of the word
 covers : (c : After-quiet_origins-quiet) (x : Pred) →
-    ComesAt c.args.set.now c.args.q.now c.args.to None 0 None x → x.mv.from < 64 →
+    ComesAt c.args.set.now c.args.q.now c.args.to None 0 c.args.target.now x → x.mv.from < 64 →
     has_square c.quiet_origins-quiet.result x.mv.from ≡ true
 covers c x h l =
     c.quiet_origins-quiet.ensures x.mv.from l
-    ∙ comes_quiet c.args.set.now c.args.q.now c.args.to c.args.origins c.args.ready.now
+    ∙ comes_quiet c.args.set.now c.args.q.now c.args.to c.args.origins c.args.target.now
+    c.args.ready.now
     c.requires.number.member.valid c.requires.ready c.requires.origins x h
 
 pub add_step-requires-clause-quiet : goal.add_step-requires-clause-quiet
@@ -26,10 +27,10 @@ add_step-requires-clause-quiet c =
     let next : IsNext c.quiet_origins-quiet.result c.loop-from.n from = c.in-Some.ensures in
     let q = c.args.q.now in
     let parts = and_parts (has_square c.args.origins from)
-    (is_empty q from && is_quiet_origin c.args.ready.now c.args.to from)
+    (is_empty q from && is_quiet_origin c.args.ready.now c.args.target.now c.args.to from)
     (sym (c.quiet_origins-quiet.ensures from next.on_board) ∙ next.there) in
     quiet_back q c.args.to c.args.ready.now c.requires.ready from
-    (and_parts (is_empty q from) (is_quiet_origin c.args.ready.now c.args.to from) parts.1).0
+    (and_parts (is_empty q from) (is_quiet_origin c.args.ready.now c.args.target.now c.args.to from) parts.1).0
 
 pub add_step-requires-clause-origin : goal.add_step-requires-clause-origin
 add_step-requires-clause-origin c =
@@ -37,9 +38,9 @@ add_step-requires-clause-origin c =
     let next : IsNext c.quiet_origins-quiet.result c.loop-from.n from = c.in-Some.ensures in
     let q = c.args.q.now in
     let parts = and_parts (has_square c.args.origins from)
-    (is_empty q from && is_quiet_origin c.args.ready.now c.args.to from)
+    (is_empty q from && is_quiet_origin c.args.ready.now c.args.target.now c.args.to from)
     (sym (c.quiet_origins-quiet.ensures from next.on_board) ∙ next.there) in
-    (and_parts (is_empty q from) (is_quiet_origin c.args.ready.now c.args.to from) parts.1).1
+    (and_parts (is_empty q from) (is_quiet_origin c.args.ready.now c.args.target.now c.args.to from) parts.1).1
 
 pub add_step-requires-clause-room : goal.add_step-requires-clause-room
 add_step-requires-clause-room c =
@@ -49,7 +50,7 @@ add_step-requires-clause-room c =
     let low = next.from in
     let room = c.requires.room in
     let more = adds_room
-    (Below (ComesAt c.args.set.now c.args.q.now c.args.to None 0 None) (λ x. x.mv.from)
+    (Below (ComesAt c.args.set.now c.args.q.now c.args.to None 0 c.args.target.now) (λ x. x.mv.from)
     c.loop-from.n) c.args.out.now c.loop-from.out c.loop-from.n c.loop-from.invariant.1 in
     omega (arith, on, low, room, more)
 
@@ -62,7 +63,7 @@ loop-from-preserved c =
     let low = next.from in
     let e = c.number-n.ensures.number in (
       omega (arith, on, e),
-      walk_next (ComesAt c.args.set.now c.args.q.now c.args.to None 0 None) (λ x. x.mv.from)
+      walk_next (ComesAt c.args.set.now c.args.q.now c.args.to None 0 c.args.target.now) (λ x. x.mv.from)
           c.args.out.now c.loop-from.out c.add_step.new.out c.loop-from.n c.in-Some.from
           (c.number-n.result + 1) c.loop-from.n 1 (c.number-n.result + 1) c.loop-from.invariant.1
           c.add_step.ensures (omega (arith, low, e)) low (omega (arith, e))
@@ -76,7 +77,7 @@ returns c =
     let word = c.quiet_origins-quiet.result in
     let none : HasNoneFrom word c.loop-from.n = c.in_default.ensures in
     let within = c.loop-from.invariant.0 in
-    walk_end (ComesAt c.args.set.now c.args.q.now c.args.to None 0 None) (λ x. x.mv.from)
+    walk_end (ComesAt c.args.set.now c.args.q.now c.args.to None 0 c.args.target.now) (λ x. x.mv.from)
     c.args.out.now c.loop-from.out c.loop-from.n c.loop-from.n 64 c.loop-from.invariant.1
     (omega (arith, within))
     (λ x h l. both_ways (has_square word x.mv.from)

@@ -7,7 +7,7 @@ use Rattle.frz_unmove.proofs.gathering.add_steps.Given as goal
 abbrev pub invariant-loop-from : goal.invariant-loop-from
 invariant-loop-from l =
     (l.n ≤ 64)
-    × Adds (Below (ComesAt l.set l.q l.to None 0 None) (λ x. x.mv.from) l.n) l.fn.out l.out l.n
+    × Adds (Below (ComesAt l.set l.q l.to None 0 l.target) (λ x. x.mv.from) l.n) l.fn.out l.out l.n
 
 abbrev pub decreases-loop-from : goal.decreases-loop-from
 decreases-loop-from l = 64 - l.n

@@ -6,7 +6,7 @@ use Rattle.frz_unmove.proofs.gathering.add_tested.Given as goal
 
 abbrev pub invariant-loop-from : goal.invariant-loop-from
 invariant-loop-from l =
-    (l.n ≤ 64) × Adds (Below (ComesAt l.set l.q l.arrival.to l.arrival.promo l.taken l.target)
+    (l.n ≤ 64) × Adds (Below (ComesAt l.set l.q l.end.to l.end.promo l.end.taken l.target)
     (λ x. x.mv.from) l.n) l.fn.out l.out l.n
 
 abbrev pub decreases-loop-from : goal.decreases-loop-from

@@ -1,4 +1,4 @@
-use Rattle.std.proofs.Common.{◌<◌, None, arith, ap, subst, refl, sym, ◌∙◌}
+use Rattle.std.proofs.Common.{◌<◌, arith, ap, subst, sym, ◌∙◌}
 use Rattle.frz_board.specs.Moving.{Step}
 use Rattle.frz_fide.specs.Valid.{IsValid}
 use Rattle.frz_index.specs.Members.{HasNumber}
@@ -14,10 +14,10 @@ number_after_step-requires-clause-valid c =
     let lf : m.from < 64 = omega (arith, ap (λ (s : Step). s.from) c.m.view_is) in
     let lt : m.to < 64 = omega (arith, ap (λ (s : Step). s.to) c.m.view_is) in
     let r = c.args.ready.now in
-    let parts = origin_parts r m.to m.from c.requires.origin in
-    subst (λ (s : Step). IsValid (stepped c.args.q.now r.man s.to s.from None)) (sym c.m.view_is)
-    (valid_there c.args.q.now m 0 None r.man c.requires.number.member.valid lf lt
-    c.requires.quiet r c.requires.ready parts.1 refl)
+    let parts = origin_parts r c.args.target.now m.to m.from c.requires.origin in
+    subst (λ (s : Step). IsValid (stepped c.args.q.now r.man s.to s.from c.args.target.now)) (sym c.m.view_is)
+    (valid_there c.args.q.now m 0 c.args.target.now r.man c.requires.number.member.valid lf lt
+    c.requires.quiet r c.requires.ready parts.1 parts.2)
 
 pub number_beside-requires-clause-valid : goal.number_beside-requires-clause-valid
 number_beside-requires-clause-valid c =
@@ -25,12 +25,12 @@ number_beside-requires-clause-valid c =
     let lf : m.from < 64 = omega (arith, ap (λ (s : Step). s.from) c.m.view_is) in
     let lt : m.to < 64 = omega (arith, ap (λ (s : Step). s.to) c.m.view_is) in
     let r = c.args.ready.now in
-    let parts = origin_parts r m.to m.from c.requires.origin in
+    let parts = origin_parts r c.args.target.now m.to m.from c.requires.origin in
     subst IsValid
-    (ap (λ (s : Step). stepped c.args.q.now r.man s.to s.from None) (sym c.m.view_is)
+    (ap (λ (s : Step). stepped c.args.q.now r.man s.to s.from c.args.target.now) (sym c.m.view_is)
     ∙ sym c.back.ensures)
-    (valid_there c.args.q.now m 0 None r.man c.requires.number.member.valid lf lt
-    c.requires.quiet r c.requires.ready parts.1 refl)
+    (valid_there c.args.q.now m 0 c.args.target.now r.man c.requires.number.member.valid lf lt
+    c.requires.quiet r c.requires.ready parts.1 parts.2)
 
 pub returns-in-Some-clause-number : goal.returns-in-Some-clause-number
 returns-in-Some-clause-number c =
@@ -38,11 +38,11 @@ returns-in-Some-clause-number c =
     let lf : m.from < 64 = omega (arith, ap (λ (s : Step). s.from) c.m.view_is) in
     let lt : m.to < 64 = omega (arith, ap (λ (s : Step). s.to) c.m.view_is) in
     let r = c.args.ready.now in
-    let parts = origin_parts r m.to m.from c.requires.origin in
-    numbered c.args.q.now m 0 None r.man c.requires.number.member.valid lf lt
+    let parts = origin_parts r c.args.target.now m.to m.from c.requires.origin in
+    numbered c.args.q.now m 0 c.args.target.now r.man c.requires.number.member.valid lf lt
     c.requires.quiet r c.requires.ready c.args.set.now c.in-Some.n parts.0
     (subst (λ (s : Step). HasNumber c.args.set.now c.in-Some.n
-    (stepped c.args.q.now r.man s.to s.from None)) c.m.view_is c.in-Some.ensures.number)
+    (stepped c.args.q.now r.man s.to s.from c.args.target.now)) c.m.view_is c.in-Some.ensures.number)
 
 pub returns-in-None-clause-number : goal.returns-in-None-clause-number
 returns-in-None-clause-number c =
@@ -50,9 +50,9 @@ returns-in-None-clause-number c =
     let lf : m.from < 64 = omega (arith, ap (λ (s : Step). s.from) c.m.view_is) in
     let lt : m.to < 64 = omega (arith, ap (λ (s : Step). s.to) c.m.view_is) in
     let r = c.args.ready.now in
-    let parts = origin_parts r m.to m.from c.requires.origin in
-    looked_up c.args.q.now m 0 None r.man c.requires.number.member.valid lf lt
+    let parts = origin_parts r c.args.target.now m.to m.from c.requires.origin in
+    looked_up c.args.q.now m 0 c.args.target.now r.man c.requires.number.member.valid lf lt
     c.requires.quiet r c.requires.ready c.args.set.now c.number_beside.result parts.0
     (c.number_beside.ensures.function
     ∙ ap (number_of c.args.set.now) (c.back.ensures
-    ∙ ap (λ (s : Step). stepped c.args.q.now r.man s.to s.from None) c.m.view_is))
+    ∙ ap (λ (s : Step). stepped c.args.q.now r.man s.to s.from c.args.target.now) c.m.view_is))

@@ -1,7 +1,5 @@
-use Rattle.std.proofs.Common.{ap}
-use Rattle.std.specs.Prelude.{is_ok}
 use Rattle.frz_index.proofs.AtNumbers.{at_broken, at_found, at_other, none_broken}
-use Rattle.frz_index.proofs.Membership.{answer_valid, no_fault_in, position_answer}
+use Rattle.frz_index.proofs.Membership.{answer_valid, position_answer}
 use Rattle.frz_index.proofs.set.Set.boards_at.Goals as goal
 
 pub returns-in-None : goal.returns-in-None
@@ -14,11 +12,11 @@ returns-in-None c =
       valid = answer_valid c.args.self.now c.args.i _ e;
     }
 
-pub returns-in-Err : goal.returns-in-Err
-returns-in-Err c =
+pub returns-else-is_valid_in_shape : goal.returns-else-is_valid_in_shape
+returns-else-is_valid_in_shape c =
     let e = at_other c.args.self.now c.args.i c.in-Some.p c.in-Some.ensures.0
-    (λ h. let ok = no_fault_in c.in-Some.p h.member.valid in
-    let fault = ap is_ok c.in-Err.ensures.answer in
+    (λ h. let valid = c.is_valid_in_shape.ensures.1 h.member.valid in
+    let no = c.if-is_valid_in_shape.false in
     absurd cc) in
     record {
       exact = e;
@@ -27,10 +25,10 @@ returns-in-Err c =
       valid = answer_valid c.args.self.now c.args.i _ e;
     }
 
-pub returns-in-Ok : goal.returns-in-Ok
-returns-in-Ok c =
+pub returns-then-is_valid_in_shape : goal.returns-then-is_valid_in_shape
+returns-then-is_valid_in_shape c =
     let e = at_found c.args.self.now c.args.i c.in-Some.p c.in-Some.ensures.0
-    (c.in-Some.ensures.1.0 c.in-Ok.ensures.valid) in
+    (c.in-Some.ensures.1.0 (c.is_valid_in_shape.ensures.0 c.if-is_valid_in_shape.true)) in
     record {
       exact = e;
       broken = none_broken c.args.self.now c.args.i _ e;

@@ -3,7 +3,7 @@ use Rattle.std.specs.Prelude.{MatchOption}
 use Rattle.frz_sets.specs.Views.{GroupLine}
 use Rattle.frz_index.specs.Candidates.{candidate}
 use Rattle.frz_index.specs.FreeSquares.{is_spread}
-use Rattle.frz_index.specs.Kept.{AreApart, AreNumberable}
+use Rattle.frz_index.specs.Kept.{AreApart, AreNumberable, AreSoundGroups}
 use Rattle.frz_index.proofs.CandidateAnswers.{candidate_answer}
 use Rattle.frz_index.proofs.WholeNumbers.{Num_below}
 use Rattle.frz_index.proofs.set.Set.candidate.Goals as goal
@@ -11,6 +11,7 @@ use Rattle.frz_index.proofs.set.Set.candidate.Goals as goal
 pub returns-then-i-size : goal.returns-then-i-size
 returns-then-i-size c =
     candidate_answer c.args.self.now c.args.i c.candidate_in.result
+    (subst AreSoundGroups c.self.view_is c.self.invariant.sound)
     (subst AreNumberable c.self.view_is c.self.invariant.numberable)
     (subst AreApart c.self.view_is c.self.invariant.apart)
     (omega (arith, c.if-i-size.true, c.size.ensures.size))
