@@ -2,15 +2,13 @@
 //! which the kings make a valid position.
 #![tactic(auto)]
 
-mod attacked;
+mod attack;
 mod kings;
 mod room;
-#[cfg(test)]
-mod tests;
-mod turned;
+mod turning;
 mod valid;
 
-pub use attacked::attacked;
+pub use attack::attacked;
 pub use kings::with_kings;
-pub use turned::turned;
+pub use turning::turned;
 pub use valid::valid_pairs;

@@ -3,7 +3,7 @@
 ghost use Rattle.std.specs.Prelude.{◌≡◌, IsTrue};
 ghost use Rattle.frz_king_planes.specs.Valid.{AreValid};
 
-use crate::attacked::attacked;
+use crate::attack::attacked;
 use crate::kings::with_kings;
 use crate::room::room;
 use frz_bits::Bitboards;

@@ -6,7 +6,7 @@ ghost use Rattle.frz_squares.specs.SquareSets.{has_square};
 ghost use Rattle.frz_planes.specs.Planes.{IsPlaneOf};
 ghost use Rattle.frz_king_planes.specs.Attacked.{is_attacked_past, AreAttacked};
 
-use crate::turned::turned;
+use crate::turning::turned;
 use frz_bits::{Bitboards, between, king_set, next_square};
 use frz_board::{Colour, Square};
 use frz_planes::Plane;
@@ -44,6 +44,8 @@ fn attacked_first(p: &Bitboards, by: Colour) -> Plane
 pub fn attacked(p: &Bitboards, colour: Colour) -> Plane
     ensures { AreAttacked p.now colour result }
 {
+    // the contract of `turn` tells the proof that there are 64 cells
+    let _turn = p.as_position().turn();
     let pairs = attacked_first(p, colour.other());
     match colour {
         Colour::White => pairs,

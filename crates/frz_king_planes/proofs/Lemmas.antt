@@ -1,0 +1,2 @@
+-- The lemmas on kings put on a board that other crates cite.
+pub use Rattle.frz_king_planes.proofs.Crowned.{Crowned, crowned}
