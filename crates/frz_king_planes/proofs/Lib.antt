@@ -4,3 +4,5 @@ mod Rows
 mod OpenSquares
 mod Crowned
 mod AttackedPast
+mod Rooms
+mod Shaped
