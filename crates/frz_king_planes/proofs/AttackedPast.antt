@@ -40,7 +40,7 @@ no_step : (a s b f g h q r t : ℕ) → f ≤ 1 → q ≤ 1 → (g ≡ 0 → r �
     (h ≡ 0 → t ≡ 0 → s ≡ b) → is_within a s b f g h q r t ≡ false
 no_step a s b f g h q r t lf lq first last = grind (arith, nat_tests)
 
-one_square : (a b : ℕ) → files_apart a b ≡ 0 → ranks_apart a b ≡ 0 → b ≡ a
+pub one_square : (a b : ℕ) → files_apart a b ≡ 0 → ranks_apart a b ≡ 0 → b ≡ a
 one_square a b f r = omega arith
 
 knight_past : (a s b : ℕ) → is_knight_jump a b ≡ true → is_between a s b ≡ false
@@ -69,7 +69,7 @@ pawn_past c a s b h =
     let file = eqb-true (files_apart a b) 1 parts.0 in
     step_past a s b (omega arith) (one_rank c a b parts.1)
 
-step_back : (a b : ℕ) → is_king_step a b ≡ is_king_step b a
+pub step_back : (a b : ℕ) → is_king_step a b ≡ is_king_step b a
 step_back a b = rw (files_back a b, ranks_back a b) refl
 
 -- the square between two is none of them
@@ -225,16 +225,16 @@ module _ (p q : Board) (c : Colour) (s t : ℕ) (lt : t < 64) (w : Crowned p q c
       stays
 
 -- a plane of such pairs has the squares of White's king first
-pub for_white : (p : Board) (by : Colour) (pairs : List ℕ) → length p.cells ≡ 64 → by ≡ Black →
-    IsPlaneOf pairs (λ s t. is_attacked_past p s by t || is_king_step s t) →
+pub for_white : (p : Board) (side : Colour) (pairs : List ℕ) → length p.cells ≡ 64 → side ≡ Black →
+    IsPlaneOf pairs (λ s t. is_attacked_past p s side t || is_king_step s t) →
     AreAttacked p White pairs
-for_white p by pairs size e h a b la lb free =
+for_white p side pairs size e h a b la lb free =
     h a b la lb ∙ ap (λ d. is_attacked_past p a d b || is_king_step a b) e
     ∙ sym (attacked_past p (with_kings p a b) White a b lb (crowned p a b White size la lb free))
 
-pub for_black : (p : Board) (by : Colour) (pairs plane : List ℕ) → length p.cells ≡ 64 →
-    by ≡ White → IsPlaneOf pairs (λ s t. is_attacked_past p s by t || is_king_step s t) →
+pub for_black : (p : Board) (side : Colour) (pairs plane : List ℕ) → length p.cells ≡ 64 →
+    side ≡ White → IsPlaneOf pairs (λ s t. is_attacked_past p s side t || is_king_step s t) →
     IsPlaneOf plane (λ a b. has_pair pairs b a) → AreAttacked p Black plane
-for_black p by pairs plane size e h turn a b la lb free =
+for_black p side pairs plane size e h turn a b la lb free =
     turn a b la lb ∙ h b a lb la ∙ ap (λ d. is_attacked_past p b d a || is_king_step b a) e
     ∙ sym (attacked_past p (with_kings p a b) Black b a la (crowned p a b Black size la lb free))

@@ -6,3 +6,4 @@ mod Crowned
 mod AttackedPast
 mod Rooms
 mod Shaped
+mod ValidPairs
