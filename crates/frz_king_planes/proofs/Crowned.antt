@@ -35,42 +35,42 @@ free_parts p a b h =
     }
 
 module _ (p : Board) (a b : ℕ) (la : a < length p.cells) (lb : b < length p.cells) (f : Free p a b)
-    where
-  white_there : slice_index (with_kings p a b).cells a ≡ king_cell White
-  white_there =
-      get_or-set_other (slice_set p.cells a (king_cell White)) b a (king_cell Black) 0 f.apart
-      ∙ get_or-set_same p.cells a (king_cell White) 0 la
+  where
+    white_there : slice_index (with_kings p a b).cells a ≡ king_cell White
+    white_there =
+        get_or-set_other (slice_set p.cells a (king_cell White)) b a (king_cell Black) 0 f.apart
+        ∙ get_or-set_same p.cells a (king_cell White) 0 la
 
-  black_there : slice_index (with_kings p a b).cells b ≡ king_cell Black
-  black_there =
-      let size = length-set p.cells a (king_cell White) in
-      get_or-set_same (slice_set p.cells a (king_cell White)) b (king_cell Black) 0
-      (omega (arith, size))
+    black_there : slice_index (with_kings p a b).cells b ≡ king_cell Black
+    black_there =
+        let size = length-set p.cells a (king_cell White) in
+        get_or-set_same (slice_set p.cells a (king_cell White)) b (king_cell Black) 0
+        (omega (arith, size))
 
-  others : (k : ℕ) → k ≢ a → k ≢ b →
-      slice_index (with_kings p a b).cells k ≡ slice_index p.cells k
-  others k na nb =
-      get_or-set_other (slice_set p.cells a (king_cell White)) b k (king_cell Black) 0 nb
-      ∙ get_or-set_other p.cells a k (king_cell White) 0 na
+    others : (k : ℕ) → k ≢ a → k ≢ b →
+        slice_index (with_kings p a b).cells k ≡ slice_index p.cells k
+    others k na nb =
+        get_or-set_other (slice_set p.cells a (king_cell White)) b k (king_cell Black) 0 nb
+        ∙ get_or-set_other p.cells a k (king_cell White) 0 na
 
-  by_colour : (c : Colour) →
-      Crowned p (with_kings p a b) c (king_square c a b) (king_square (other_of c) a b)
-  by_colour White = record {
-    own = white_there;
-    other = black_there;
-    rest = others;
-    own_empty = f.white;
-    other_empty = f.black;
-    apart = f.apart;
-  }
-  by_colour Black = record {
-    own = black_there;
-    other = white_there;
-    rest = λ k nb na. others k na nb;
-    own_empty = f.black;
-    other_empty = f.white;
-    apart = λ e. f.apart (sym e);
-  }
+    by_colour : (c : Colour) →
+        Crowned p (with_kings p a b) c (king_square c a b) (king_square (other_of c) a b)
+    by_colour White = record {
+      own = white_there;
+      other = black_there;
+      rest = others;
+      own_empty = f.white;
+      other_empty = f.black;
+      apart = f.apart;
+    }
+    by_colour Black = record {
+      own = black_there;
+      other = white_there;
+      rest = λ k nb na. others k na nb;
+      own_empty = f.black;
+      other_empty = f.white;
+      apart = λ e. f.apart (sym e);
+    }
 
 -- either colour's view of the board with kings on two free squares
 pub crowned : (p : Board) (a b : ℕ) (c : Colour) → length p.cells ≡ 64 → a < 64 → b < 64 →

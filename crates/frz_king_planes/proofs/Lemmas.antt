@@ -1,2 +1,3 @@
 -- The lemmas on kings put on a board that other crates cite.
-pub use Rattle.frz_king_planes.proofs.Crowned.{Crowned, crowned}
+pub use Rattle.frz_king_planes.proofs.Crowned.{Crowned, crowned, Free, free_parts}
+pub use Rattle.frz_king_planes.proofs.ValidPairs.{checked}

@@ -1,8 +1,8 @@
 -- The pairs on which kings make a valid position: those of squares for kings that stand apart, on
 -- which the shape is right and the king of the side not to move is not attacked.
-use Rattle.std.proofs.Common.{◌≡◌, ◌≢◌, ℕ, ◌<◌, Bool, true, false, ◌&&◌, not, List, length-set, max, slice_index, slice_set, refl, ap, sym, ◌∙◌, arith}
+use Rattle.std.proofs.Common.{◌≡◌, ◌≢◌, ℕ, ◌<◌, Bool, true, false, ◌&&◌, not, List, length-set, max, slice_index, slice_set, refl, ap, sym, ◌∙◌, inl, inr, arith}
 use Rattle.std.specs.Prelude.{◌==◌, nat_le}
-use Rattle.std.proofs.lemmas.Bool.{and_from, and_parts, eq-eqb, eqb-true, false_from_ne_true, not_from_false, or_parts}
+use Rattle.std.proofs.lemmas.Bool.{and_from, and_parts, eq-eqb, eqb-true, cases_Bool, false_from_ne_true, true_from_ne_false, not_from_false, or_parts}
 use Rattle.std.proofs.lemmas.Bool.Decides.{nat_tests}
 use Rattle.std.proofs.lemmas.List.Elements.{All-set}
 use Rattle.frz_board.specs.declared.man.Colour.{Colour}
@@ -98,6 +98,16 @@ module _ (p : Board) (fit : CellsFit p.cells) (a b : ℕ) (la : a < 64) (lb : b 
       (omega arith) (omega arith) (omega arith) parts.0 (king_on c) in
       let hit = ap (λ s. is_attacked q s (other_of c)) (sym same) ∙ parts.1 in cc)
 
+  pub checked : (c : Colour) → has_kings q ≡ true →
+      is_in_check q c ≡ is_attacked q (king_square c a b) (other_of c)
+  checked c kings =
+      elim (cases_Bool (is_in_check q c)) [
+        | inl check ↦ check
+            ∙ sym (true_from_ne_false (is_attacked q (king_square c a b) (other_of c))
+            (λ calm. let safe = safe_then c kings calm in cc))
+        | inr safe ↦ safe ∙ sym (unchecked c safe)
+      ]
+
   shape_of_valid : IsValid q → has_shape q ≡ true
   shape_of_valid v =
       and_from (has_kings q && has_pawns_inside q) (has_few_men q && has_target_in_place q)
@@ -138,7 +148,7 @@ module _ (p : Board) (fit : CellsFit p.cells) (a b : ℕ) (la : a < 64) (lb : b 
 module _ (p : Board) (fit : CellsFit p.cells) (pairs : List ℕ) (shaped : Bool)
     (are : IsPlaneOf pairs (are_rooms p))
     (one : (a b : ℕ) → a < 64 → b < 64 → has_pair pairs a b ≡ true →
-      shaped ≡ has_shape (with_kings p a b)) where
+    shaped ≡ has_shape (with_kings p a b)) where
   there : (a b : ℕ) → a < 64 → b < 64 → are_free p a b ≡ true → IsValid (with_kings p a b) →
       has_pair pairs a b ≡ true
   there a b la lb free v = are a b la lb ∙ valid_rooms p fit a b la lb free v

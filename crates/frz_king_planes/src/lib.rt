@@ -4,7 +4,10 @@
 
 mod attack;
 mod kings;
+pub mod laws;
 mod room;
+#[cfg(test)]
+mod tests;
 mod turning;
 mod valid;
 

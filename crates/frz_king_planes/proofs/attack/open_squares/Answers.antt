@@ -13,12 +13,11 @@ loop-m-preserved c =
     let on = next.on_board in
     let same = c.number-n.ensures.number in
     let word = bit_or c.loop-m.word (18446744073709551615 - c.between.result) in
-    let P : ℕ → Type 0 = λ m. IsOpen c.args.p.now c.args.s c.args.by (m + 1) word in
-    (
+    let P : ℕ → Type 0 = λ m. IsOpen c.args.p.now c.args.s c.args.by (m + 1) word in (
       omega arith,
       subst P (sym same)
-      (one_more c.args.p.now c.args.s c.args.by men c.attackers-men.ensures c.loop-m.n c.in-Some.m
-      c.loop-m.word c.between.result next c.between.ensures c.loop-m.invariant.1),
+          (one_more c.args.p.now c.args.s c.args.by men c.attackers-men.ensures c.loop-m.n c.in-Some.m
+          c.loop-m.word c.between.result next c.between.ensures c.loop-m.invariant.1),
     )
 
 pub returns : goal.returns
