@@ -43,7 +43,7 @@ later n (u ∷ states) (suc j) (suc k) s t h l e f =
     later (state_number u + 1) states j k s t h.2 (omega arith) e f
 
 -- a state stands at one place
-one_place : (states : List (Kind × ℕ)) (j k : ℕ) (s : Kind × ℕ) → AreIncreasingFrom 0 states →
+pub one_place : (states : List (Kind × ℕ)) (j k : ℕ) (s : Kind × ℕ) → AreIncreasingFrom 0 states →
     slice_get states j ≡ Some s → slice_get states k ≡ Some s → j ≡ k
 one_place states j k s h e f =
     elim (cases_lt j k) [

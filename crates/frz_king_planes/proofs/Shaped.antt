@@ -58,7 +58,7 @@ module _ (p : Board) (a b : ℕ) (size : length p.cells ≡ 64) (la : a < 64) (l
   w : Crowned p q White a b
   w = crowned p a b White size la lb free
 
-  same_test : (f : ℕ → Bool) → f 0 ≡ false → f (king_cell White) ≡ false →
+  pub same_test : (f : ℕ → Bool) → f 0 ≡ false → f (king_cell White) ≡ false →
       f (king_cell Black) ≡ false → (x : ℕ) → f (slice_index q.cells x) ≡ f (slice_index p.cells x)
   same_test f none white black x =
       elim (cases_eq x a) [

@@ -1,0 +1,2 @@
+mod OtherMen
+mod KingGroups
