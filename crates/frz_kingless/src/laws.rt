@@ -17,4 +17,7 @@ pub fn positions()
     ensures there { (r : RuleLines) (p : Board) (i c a b : ℕ) → IsSound r →
         IsBoardOf r.groups c p → IsSplit r.groups i c a b → are_free p a b ≡ true →
         IsValid (with_kings p a b) → HasNumber r.groups i (with_kings p a b) }
+    ensures only { (r : RuleLines) (p q : Board) (i c a b : ℕ) → IsSound r →
+        IsBoardOf r.groups c p → IsSplit r.groups i c a b → HasNumber r.groups i q →
+        (are_free p a b ≡ true) × (q ≡ with_kings p a b) }
 {}
