@@ -1,8 +1,8 @@
 -- On a board with kings each group of kings has its king, and each man a group.
-use Rattle.std.proofs.Common.{◌≡◌, ◌≢◌, ℕ, ◌+◌, ◌<◌, ◌≤◌, zero, suc, Bool, true, false, not, ◌&&◌, ◌||◌, cond, Option, None, Some, List, [], ◌∷◌, ◌++◌, length, map, slice_index, refl, ap, sym, ◌∙◌, arith, inl, inr}
+use Rattle.std.proofs.Common.{◌≡◌, ◌≢◌, ℕ, ◌+◌, ◌<◌, zero, suc, Bool, true, false, not, ◌&&◌, cond, Option, None, Some, List, [], ◌∷◌, ◌++◌, length, map, slice_index, refl, ap, sym, ◌∙◌, arith, inl, inr}
 use Rattle.std.specs.Prelude.{◌==◌}
-use Rattle.std.specs.List.{AllByRecursion, list_any, slice_get}
-use Rattle.std.proofs.lemmas.Bool.{cases_Bool, cases_eq, and_from, and_parts, eq-eqb, eqb-true, or_left, or_right, or_cases}
+use Rattle.std.specs.List.{AllByRecursion, slice_get}
+use Rattle.std.proofs.lemmas.Bool.{cases_Bool, cases_eq, and_from, and_parts, eq-eqb, or_left, or_right, or_cases}
 use Rattle.std.proofs.lemmas.List.Folds.{list_any_at}
 use Rattle.std.proofs.lemmas.Option.{get_or_from_slice_get, same_Some, slice_get_within}
 use Rattle.frz_board.specs.declared.man.Colour.{Colour}
@@ -15,7 +15,7 @@ use Rattle.frz_fide.specs.Valid.{IsValid}
 use Rattle.frz_fide.proofs.Lemmas.{kings_are, one_place as one_man, same_side}
 use Rattle.frz_combinations.specs.Combinations.{places_below}
 use Rattle.frz_combinations.specs.MixedRadix.{value}
-use Rattle.frz_sets.specs.Groups.{is_king, state_number}
+use Rattle.frz_sets.specs.Groups.{state_number}
 use Rattle.frz_sets.specs.Sets.{has_state, is_state}
 use Rattle.frz_sets.specs.Sound.{AreIncreasingFrom, AreSoundAfter, AreStates, IsSound}
 use Rattle.frz_sets.specs.Views.{GroupLine, RuleLines}
@@ -23,11 +23,11 @@ use Rattle.frz_index.specs.Members.{HasNumber, Member, Num}
 use Rattle.frz_index.specs.Places.{IsWithinCount, digit_of, places, stands}
 use Rattle.frz_index.specs.TurnStates.{turn_number}
 use Rattle.frz_index.proofs.Lemmas.{digits_are, turn_fits}
-use Rattle.frz_configurations.specs.Configurations.{IsSplit, configuration_of, has_kings, king_state, other_radices, others}
+use Rattle.frz_configurations.specs.Configurations.{IsSplit, has_kings, king_state, other_radices, others}
 use Rattle.frz_configurations.specs.Joined.{HasKing, IsKingSquare}
 use Rattle.frz_configurations.proofs.Lemmas.{IsKingly, king_found, king_squares, kingly, one_number, one_place, other_digits-map, state_is}
 use Rattle.frz_king_planes.specs.Kings.{are_free, king_cell, king_square, with_kings}
-use Rattle.frz_king_planes.proofs.Lemmas.{Crowned, crowned}
+use Rattle.frz_king_planes.proofs.Lemmas.{crowned}
 use Rattle.frz_kingless.specs.Boards.{IsBoardOf}
 use Rattle.frz_kingless.proofs.OtherMen.{counted_alike, digits_alike}
 

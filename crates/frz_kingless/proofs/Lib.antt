@@ -1,2 +1,4 @@
 mod OtherMen
 mod KingGroups
+mod CarriedMen
+mod OnlyPosition

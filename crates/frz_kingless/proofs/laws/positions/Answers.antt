@@ -1,4 +1,6 @@
+use Rattle.std.proofs.Common.{[]}
 use Rattle.frz_kingless.proofs.KingGroups.{has_number, king_on_board}
+use Rattle.frz_kingless.proofs.OnlyPosition.{are_empty, is_that}
 use Rattle.frz_kingless.proofs.laws.positions.Goals as goal
 
 pub returns-clause-there : goal.returns-clause-there
@@ -9,4 +11,7 @@ returns-clause-there x r p i c a b sound board split free v =
     free v r i c sound board split
 
 pub returns-clause-only : goal.returns-clause-only
-returns-clause-only x r p q i c a b sound board split number = ?
+returns-clause-only x r p q i c a b sound board split number = (
+  are_empty r p q i c a b sound board split number,
+  is_that r p q i c a b sound board split number,
+)
