@@ -143,7 +143,7 @@ one_number r i j c a b sound h k =
     same_king Black none = record { state = (King, b); one = h.black; other = k.black }
 
 -- behind groups with kings of the colour none has any
-none_later : (c : Colour) (earlier gs : List GroupLine) (k : ℕ) (g : GroupLine) →
+pub none_later : (c : Colour) (earlier gs : List GroupLine) (k : ℕ) (g : GroupLine) →
     AreSoundAfter earlier gs → has_king_group earlier c ≡ true → slice_get gs k ≡ Some g →
     g.colour ≡ c → has_kings g ≡ true → ⊥
 none_later c earlier [] k g sound there e colour kings = absurd cc

@@ -73,7 +73,7 @@ one_king q c s t v ls lt hs ht =
     (omega arith) (omega arith) (omega arith) hs ht
 
 -- the king that digits give has a state of a group
-king_known : (c : Colour) (s : ℕ) (gs : List GroupLine) (ds : List ℕ) →
+pub king_known : (c : Colour) (s : ℕ) (gs : List GroupLine) (ds : List ℕ) →
     king_state c gs ds ≡ Some (King, s) → has_state gs (king_cell c) s ≡ true
 king_known c s [] ds e = absurd cc
 king_known c s (g ∷ gs) [] e = absurd cc

@@ -2,3 +2,6 @@ mod OtherMen
 mod KingGroups
 mod CarriedMen
 mod OnlyPosition
+mod KnownKings
+mod Emptied
+mod Searching

@@ -24,7 +24,7 @@ use Rattle.frz_index.specs.Members.{HasNumber, Member}
 use Rattle.frz_index.specs.Places.{IsWithinCount, digit_of}
 use Rattle.frz_index.specs.TurnStates.{turn_in, turn_number}
 use Rattle.frz_index.proofs.Lemmas.{candidate-Num, digits_are, turn_fits}
-use Rattle.frz_configurations.specs.Configurations.{IsSplit, has_kings, king_state, other_digits, other_radices, others}
+use Rattle.frz_configurations.specs.Configurations.{IsSplit, configuration_of, has_kings, king_state, other_digits, other_radices, others}
 use Rattle.frz_configurations.proofs.Lemmas.{kingly, on_square, other_digits-map, same_digits, state_is}
 use Rattle.frz_king_planes.specs.Kings.{are_free, king_cell, with_kings}
 use Rattle.frz_king_planes.proofs.Lemmas.{Crowned, crowned}
@@ -70,7 +70,7 @@ king_of_group earlier g cell s sound kings h =
     ∙ ap (λ (k : Kind). cell_of_man (record { colour = g.colour; kind = k })) kind
 
 -- a man that is no king has a group without kings
-other_known : (earlier gs : List GroupLine) (cell s : ℕ) → AreSoundAfter earlier gs →
+pub other_known : (earlier gs : List GroupLine) (cell s : ℕ) → AreSoundAfter earlier gs →
     ((c : Colour) → cell ≡ king_cell c → ⊥) → has_state gs cell s ≡ true →
     has_state (others gs) cell s ≡ true
 other_known earlier [] cell s sound none h = h
@@ -129,9 +129,8 @@ same_board x y cells turn ep =
     ∙ ap (λ (v : Colour). let z : Board = record { cells = y.cells; turn = v; ep = x.ep } in z) turn
     ∙ ap (λ (v : Option ℕ). let z : Board = record { cells = y.cells; turn = y.turn; ep = v } in z) ep
 
-module _ (r : RuleLines) (p q : Board) (i c a b : ℕ) (sound : IsSound r)
-    (board : IsBoardOf r.groups c p) (split : IsSplit r.groups i c a b)
-    (number : HasNumber r.groups i q) where
+module _ (r : RuleLines) (q : Board) (i c a b : ℕ) (sound : IsSound r)
+    (split : IsSplit r.groups i c a b) (number : HasNumber r.groups i q) where
   abbrev gs : List GroupLine
   gs = r.groups
 
@@ -152,20 +151,20 @@ module _ (r : RuleLines) (p q : Board) (i c a b : ℕ) (sound : IsSound r)
   own_digits : split.ds ≡ map (digit_of q) gs
   own_digits = let h = all_digits in cc
 
-  white_there : has q White King a ≡ true
+  pub white_there : has q White King a ≡ true
   white_there =
       kings_stand q White a [] gs sound.lines.groups m.counts
       (ap (king_state White gs) (sym own_digits) ∙ split.white)
 
-  black_there : has q Black King b ≡ true
+  pub black_there : has q Black King b ≡ true
   black_there =
       kings_stand q Black b [] gs sound.lines.groups m.counts
       (ap (king_state Black gs) (sym own_digits) ∙ split.black)
 
-  la : a < 64
+  pub la : a < 64
   la = king_on_board White a [] gs split.ds sound.lines.groups split.white
 
-  lb : b < 64
+  pub lb : b < 64
   lb = king_on_board Black b [] gs split.ds sound.lines.groups split.black
 
   counts_of_others : (x : Board) (xs : List GroupLine) → AllByRecursion (IsWithinCount x) xs →
@@ -178,57 +177,21 @@ module _ (r : RuleLines) (p q : Board) (i c a b : ℕ) (sound : IsSound r)
         | false ↦ (h.0, counts_of_others x xs h.1)
       ]
 
-  one_configuration : turn_of q ∷ map (digit_of q) (others gs)
-      ≡ turn_of p ∷ map (digit_of p) (others gs)
-  one_configuration =
-      same_digits (other_radices gs) (turn_of q ∷ map (digit_of q) (others gs))
-      (turn_of p ∷ map (digit_of p) (others gs))
-      (turn_fits gs q m, digits_are q (others gs) (counts_of_others q gs m.counts))
-      (board.below, digits_are p (others gs) board.counts)
-      (ap (λ ds. value (other_radices gs) (turn_of q ∷ ds)) (sym (other_digits-map (digit_of q) gs))
-      ∙ ap (λ ds. value (other_radices gs) (turn_of q ∷ other_digits gs ds)) (sym own_digits)
-      ∙ ap (λ t. value (other_radices gs) (t ∷ other_digits gs split.ds)) (sym own_turn)
-      ∙ sym split.configuration ∙ sym board.configuration)
+  pub own_configuration : c ≡ configuration_of gs q
+  own_configuration =
+      split.configuration
+      ∙ ap (λ t. value (other_radices gs) (t ∷ other_digits gs split.ds)) own_turn
+      ∙ ap (λ ds. value (other_radices gs) (turn_of q ∷ other_digits gs ds)) own_digits
+      ∙ ap (λ ds. value (other_radices gs) (turn_of q ∷ ds)) (other_digits-map (digit_of q) gs)
 
-  one_turn : turn_of q ≡ turn_of p
-  one_turn = let h = one_configuration in cc
-
-  other_men : map (digit_of q) (others gs) ≡ map (digit_of p) (others gs)
-  other_men = let h = one_configuration in cc
-
-  -- a man of a group without kings stands on both
-  from_board : (s : ℕ) → s < 64 → slice_index p.cells s ≢ 0 →
-      slice_index q.cells s ≡ slice_index p.cells s
-  from_board s l some =
-      carried p q (others gs) (slice_index p.cells s) s board.counts
-      (counts_of_others q gs m.counts) (sym other_men) refl (board.men s l some)
-
-  empty_below : (d : Colour) (s : ℕ) → s < 64 → has q d King s ≡ true →
-      slice_index p.cells s ≡ 0
-  empty_below d s l king =
-      elim (cases_eq (slice_index p.cells s) 0) [
-        | inl e ↦ e
-        | inr some ↦ absurd (no_king_known d gs s
-            (ap (λ x. has_state (others gs) x s)
-            (sym (eqb-true (slice_index q.cells s) (king_cell d) king) ∙ from_board s l some)
-            ∙ board.men s l some))
-      ]
-
-  differ : a ≢ b
+  pub differ : a ≢ b
   differ e =
       let white = eqb-true (slice_index q.cells a) (king_cell White) white_there in
       let black = ap (slice_index q.cells) e
       ∙ eqb-true (slice_index q.cells b) (king_cell Black) black_there in
       absurd (omega arith)
 
-  pub are_empty : are_free p a b ≡ true
-  are_empty =
-      and_from (not (a == b)) (is_empty p a && is_empty p b) (same_not a b differ)
-      (and_from (is_empty p a) (is_empty p b)
-      (eq-eqb (slice_index p.cells a) 0 (empty_below White a la white_there))
-      (eq-eqb (slice_index p.cells b) 0 (empty_below Black b lb black_there)))
-
-  no_other_king : (s : ℕ) → s < 64 → s ≢ a → s ≢ b → (d : Colour) →
+  pub no_other_king : (s : ℕ) → s < 64 → s ≢ a → s ≢ b → (d : Colour) →
       slice_index q.cells s ≡ king_cell d → ⊥
   no_other_king s l na nb White e =
       na (one_king q White s a m.valid l la (eq-eqb (slice_index q.cells s) (king_cell White) e)
@@ -237,50 +200,8 @@ module _ (r : RuleLines) (p q : Board) (i c a b : ℕ) (sound : IsSound r)
       nb (one_king q Black s b m.valid l lb (eq-eqb (slice_index q.cells s) (king_cell Black) e)
       black_there)
 
-  one_man : (s : ℕ) → s < 64 → s ≢ a → s ≢ b → slice_index q.cells s ≡ slice_index p.cells s
-  one_man s l na nb =
-      elim (cases_eq (slice_index p.cells s) 0) [
-        | inr some ↦ from_board s l some
-        | inl none ↦ elim (cases_eq (slice_index q.cells s) 0) [
-          | inl e ↦ e ∙ sym none
-          | inr some ↦ sym (carried q p (others gs) (slice_index q.cells s) s
-              (counts_of_others q gs m.counts) board.counts other_men refl
-              (other_known [] gs (slice_index q.cells s) s sound.lines.groups
-              (no_other_king s l na nb) (m.men s l some)))
-        ]
-      ]
-
-  view : Crowned p (with_kings p a b) White a b
-  view = crowned p a b White board.fits.size la lb are_empty
-
-  one_cell : (s : ℕ) → s < 64 →
-      slice_index q.cells s ≡ slice_index (with_kings p a b).cells s
-  one_cell s l =
-      elim (cases_eq s a) [
-        | inl e ↦ ap (slice_index q.cells) e
-            ∙ eqb-true (slice_index q.cells a) (king_cell White) white_there ∙ sym view.own
-            ∙ ap (slice_index (with_kings p a b).cells) (sym e)
-        | inr na ↦ elim (cases_eq s b) [
-          | inl e ↦ ap (slice_index q.cells) e
-              ∙ eqb-true (slice_index q.cells b) (king_cell Black) black_there ∙ sym view.other
-              ∙ ap (slice_index (with_kings p a b).cells) (sym e)
-          | inr nb ↦ one_man s l na nb ∙ sym (view.rest s na nb)
-        ]
-      ]
-
-  size_q : length q.cells ≡ 64
-  size_q = m.valid.fits.size
-
-  size_p : length (with_kings p a b).cells ≡ 64
-  size_p = rw (length-set, length-set) board.fits.size
-
-  cells_same : q.cells ≡ (with_kings p a b).cells
-  cells_same =
-      same_number_lists q.cells (with_kings p a b).cells (size_q ∙ sym size_p)
-      (λ s l. one_cell s (omega (arith, size_q)))
-
   -- the turn state of the position is that of its number
-  state_back : turn_in (targets gs) (turn_of q) ≡ (q.turn, q.ep)
+  pub state_back : turn_in (targets gs) (turn_of q) ≡ (q.turn, q.ep)
   state_back =
       let w = product (map radix_of gs) in
       let v = value (map radix_of gs) (map (digit_of q) gs) in
@@ -288,11 +209,94 @@ module _ (r : RuleLines) (p q : Board) (i c a b : ℕ) (sound : IsSound r)
       ap (turn_in (targets gs)) (sym (div-mul-add (turn_of q) w v below))
       ∙ ap (λ (x : Board). let y : Colour × Option ℕ = (x.turn, x.ep) in y) (candidate-Num gs q m)
 
-  one_state : turn_in (targets gs) (turn_of p) ≡ (q.turn, q.ep)
-  one_state = ap (turn_in (targets gs)) (sym one_turn) ∙ state_back
+  module _ (p : Board) (board : IsBoardOf r.groups c p) where
+    one_configuration : turn_of q ∷ map (digit_of q) (others gs)
+        ≡ turn_of p ∷ map (digit_of p) (others gs)
+    one_configuration =
+        same_digits (other_radices gs) (turn_of q ∷ map (digit_of q) (others gs))
+        (turn_of p ∷ map (digit_of p) (others gs))
+        (turn_fits gs q m, digits_are q (others gs) (counts_of_others q gs m.counts))
+        (board.below, digits_are p (others gs) board.counts)
+        (sym own_configuration ∙ sym board.configuration)
 
-  pub is_that : q ≡ with_kings p a b
-  is_that =
-      same_board q (with_kings p a b) cells_same
-      (ap (λ (x : Colour × Option ℕ). x.0) (sym one_state ∙ board.turn))
-      (ap (λ (x : Colour × Option ℕ). x.1) (sym one_state ∙ board.turn))
+    one_turn : turn_of q ≡ turn_of p
+    one_turn = let h = one_configuration in cc
+
+    other_men : map (digit_of q) (others gs) ≡ map (digit_of p) (others gs)
+    other_men = let h = one_configuration in cc
+
+    -- a man of a group without kings stands on both
+    from_board : (s : ℕ) → s < 64 → slice_index p.cells s ≢ 0 →
+        slice_index q.cells s ≡ slice_index p.cells s
+    from_board s l some =
+        carried p q (others gs) (slice_index p.cells s) s board.counts
+        (counts_of_others q gs m.counts) (sym other_men) refl (board.men s l some)
+
+    empty_below : (d : Colour) (s : ℕ) → s < 64 → has q d King s ≡ true →
+        slice_index p.cells s ≡ 0
+    empty_below d s l king =
+        elim (cases_eq (slice_index p.cells s) 0) [
+          | inl e ↦ e
+          | inr some ↦ absurd (no_king_known d gs s
+              (ap (λ x. has_state (others gs) x s)
+              (sym (eqb-true (slice_index q.cells s) (king_cell d) king) ∙ from_board s l some)
+              ∙ board.men s l some))
+        ]
+
+    pub are_empty : are_free p a b ≡ true
+    are_empty =
+        and_from (not (a == b)) (is_empty p a && is_empty p b) (same_not a b differ)
+        (and_from (is_empty p a) (is_empty p b)
+        (eq-eqb (slice_index p.cells a) 0 (empty_below White a la white_there))
+        (eq-eqb (slice_index p.cells b) 0 (empty_below Black b lb black_there)))
+
+    one_man : (s : ℕ) → s < 64 → s ≢ a → s ≢ b → slice_index q.cells s ≡ slice_index p.cells s
+    one_man s l na nb =
+        elim (cases_eq (slice_index p.cells s) 0) [
+          | inr some ↦ from_board s l some
+          | inl none ↦ elim (cases_eq (slice_index q.cells s) 0) [
+            | inl e ↦ e ∙ sym none
+            | inr some ↦ sym (carried q p (others gs) (slice_index q.cells s) s
+                (counts_of_others q gs m.counts) board.counts other_men refl
+                (other_known [] gs (slice_index q.cells s) s sound.lines.groups
+                (no_other_king s l na nb) (m.men s l some)))
+          ]
+        ]
+
+    view : Crowned p (with_kings p a b) White a b
+    view = crowned p a b White board.fits.size la lb are_empty
+
+    one_cell : (s : ℕ) → s < 64 →
+        slice_index q.cells s ≡ slice_index (with_kings p a b).cells s
+    one_cell s l =
+        elim (cases_eq s a) [
+          | inl e ↦ ap (slice_index q.cells) e
+              ∙ eqb-true (slice_index q.cells a) (king_cell White) white_there ∙ sym view.own
+              ∙ ap (slice_index (with_kings p a b).cells) (sym e)
+          | inr na ↦ elim (cases_eq s b) [
+            | inl e ↦ ap (slice_index q.cells) e
+                ∙ eqb-true (slice_index q.cells b) (king_cell Black) black_there ∙ sym view.other
+                ∙ ap (slice_index (with_kings p a b).cells) (sym e)
+            | inr nb ↦ one_man s l na nb ∙ sym (view.rest s na nb)
+          ]
+        ]
+
+    size_q : length q.cells ≡ 64
+    size_q = m.valid.fits.size
+
+    size_p : length (with_kings p a b).cells ≡ 64
+    size_p = rw (length-set, length-set) board.fits.size
+
+    cells_same : q.cells ≡ (with_kings p a b).cells
+    cells_same =
+        same_number_lists q.cells (with_kings p a b).cells (size_q ∙ sym size_p)
+        (λ s l. one_cell s (omega (arith, size_q)))
+
+    one_state : turn_in (targets gs) (turn_of p) ≡ (q.turn, q.ep)
+    one_state = ap (turn_in (targets gs)) (sym one_turn) ∙ state_back
+
+    pub is_that : q ≡ with_kings p a b
+    is_that =
+        same_board q (with_kings p a b) cells_same
+        (ap (λ (x : Colour × Option ℕ). x.0) (sym one_state ∙ board.turn))
+        (ap (λ (x : Colour × Option ℕ). x.1) (sym one_state ∙ board.turn))

@@ -12,6 +12,6 @@ returns-clause-there x r p i c a b sound board split free v =
 
 pub returns-clause-only : goal.returns-clause-only
 returns-clause-only x r p q i c a b sound board split number = (
-  are_empty r p q i c a b sound board split number,
-  is_that r p q i c a b sound board split number,
+  are_empty r q i c a b sound split number p board,
+  is_that r q i c a b sound split number p board,
 )
