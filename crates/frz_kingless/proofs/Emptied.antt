@@ -1,5 +1,5 @@
 -- A position without its kings is its configuration's board.
-use Rattle.std.proofs.Common.{◌≡◌, ◌≢◌, ℕ, ◌<◌, Bool, true, false, not, ◌&&◌, cond, List, [], ◌∷◌, length, length-set, map, slice_index, slice_set, get_or-set_same, get_or-set_other, refl, ap, sym, ◌∙◌, subst, arith, inl, inr}
+use Rattle.std.proofs.Common.{◌≡◌, ◌≢◌, ℕ, ◌<◌, Bool, true, false, not, ◌&&◌, cond, List, [], ◌∷◌, length, length-set, map, slice_index, slice_set, get_or-set_same, get_or-set_other, refl, ap, sym, ◌∙◌, arith, inl, inr}
 use Rattle.std.specs.Prelude.{◌==◌}
 use Rattle.std.specs.List.{AllByRecursion}
 use Rattle.std.proofs.lemmas.Bool.{and_from, cases_eq, eq-eqb, eqb-true}
@@ -16,7 +16,7 @@ use Rattle.frz_index.specs.Members.{HasNumber}
 use Rattle.frz_index.specs.Places.{IsWithinCount, digit_of, places}
 use Rattle.frz_index.specs.TurnStates.{turn_number}
 use Rattle.frz_index.proofs.Lemmas.{turn_fits}
-use Rattle.frz_configurations.specs.Configurations.{IsSplit, configuration_of, has_kings, other_radices, others}
+use Rattle.frz_configurations.specs.Configurations.{IsSplit, has_kings, other_radices, others}
 use Rattle.frz_king_planes.specs.Kings.{are_free, king_cell, with_kings}
 use Rattle.frz_king_planes.proofs.Lemmas.{Crowned, crowned}
 use Rattle.frz_kingless.specs.Boards.{IsBoardOf}

@@ -1,7 +1,7 @@
 -- Squares on which a king is known are those of the group of kings of his colour.
-use Rattle.std.proofs.Common.{◌≡◌, ℕ, zero, suc, Bool, true, false, ◌&&◌, ◌||◌, Some, List, [], ◌∷◌, ◌++◌, refl, ap, sym, ◌∙◌, subst, inl, inr}
+use Rattle.std.proofs.Common.{◌≡◌, ℕ, zero, suc, Bool, true, false, ◌&&◌, ◌||◌, Some, List, [], ◌∷◌, ◌++◌, ap, sym, ◌∙◌, subst, inl, inr}
 use Rattle.std.specs.Prelude.{◌==◌}
-use Rattle.std.specs.List.{list_any, slice_get}
+use Rattle.std.specs.List.{slice_get}
 use Rattle.std.proofs.lemmas.Bool.{and_from, and_parts, eqb-true, or_cases, or_right}
 use Rattle.std.proofs.lemmas.List.Folds.{list_any-append, list_any_at}
 use Rattle.std.proofs.lemmas.Option.{get_or_from_slice_get, same_Some, slice_get_within}
@@ -22,7 +22,7 @@ use Rattle.frz_configurations.specs.Configurations.{has_kings}
 use Rattle.frz_configurations.specs.Joined.{HasKing, IsKingSquare}
 use Rattle.frz_configurations.proofs.Lemmas.{none_later}
 use Rattle.frz_king_planes.specs.Kings.{king_cell}
-use Rattle.frz_kingless.proofs.CarriedMen.{Passing, some_passes}
+use Rattle.frz_kingless.proofs.CarriedMen.{some_passes}
 
 known_state : (c : Colour) (gs : List GroupLine) (s : ℕ) → is_known gs (king_cell c) s ≡ true →
     has_state gs (king_cell c) s ≡ true

@@ -1,5 +1,5 @@
 -- The search for a number with a position, pair by pair.
-use Rattle.std.proofs.Common.{◌≡◌, ℕ, ◌+◌, ◌*◌, ◌<◌, ◌≤◌, true, false, ◌&&◌, List, ap, sym, ◌∙◌, subst, arith, inl, inr}
+use Rattle.std.proofs.Common.{◌≡◌, ℕ, ◌+◌, ◌*◌, ◌<◌, true, List, [], sym, ◌∙◌, subst, arith, inl, inr}
 use Rattle.std.proofs.lemmas.Bool.{and_from, and_parts, cases_eq, cases_lt}
 use Rattle.frz_board.specs.declared.man.Colour.TheVariants.{White, Black}
 use Rattle.frz_sets.specs.Sound.{IsSound}
@@ -14,7 +14,6 @@ use Rattle.frz_king_planes.specs.Kings.{king_cell}
 use Rattle.frz_kingless.specs.Boards.{HasNoPosition, are_known}
 use Rattle.frz_kingless.proofs.KingGroups.{king_known, king_on_board}
 use Rattle.frz_kingless.proofs.KnownKings.{known_king, state_known}
-use Rattle.frz_kingless.proofs.OnlyPosition.{same_board}
 
 -- the numbers of the configuration at pairs below n are broken
 abbrev pub NoneBelow : List GroupLine → ℕ → ℕ → Type 0
