@@ -218,8 +218,11 @@ module _ (p : Board) (a b : ℕ) (size : length p.cells ≡ 64) (la : a < 64) (l
       ] in
       either (has_kings g) refl h
 
-  module _ (r : RuleLines) (i c : ℕ) (sound : IsSound r) (board : IsBoardOf r.groups c p)
-      (split : IsSplit r.groups i c a b) where
+  -- groups have the kings on these squares
+  module _ (r : RuleLines) (c : ℕ) (sound : IsSound r) (board : IsBoardOf r.groups c p)
+      (white_known : has_state r.groups (king_cell White) a ≡ true)
+      (black_known : has_state r.groups (king_cell Black) b ≡ true)
+      (white : IsKingSquare r.groups White a) (black : IsKingSquare r.groups Black b) where
     man_known : (s : ℕ) → s < 64 → slice_index q.cells s ≢ 0 →
         has_state r.groups (slice_index q.cells s) s ≡ true
     man_known s l some =
@@ -227,11 +230,11 @@ module _ (p : Board) (a b : ℕ) (size : length p.cells ≡ 64) (la : a < 64) (l
         elim (cases_eq s a) [
           | inl e ↦ ap (λ x. has_state r.groups x s) (ap (slice_index q.cells) e ∙ view.own)
               ∙ ap (has_state r.groups (king_cell White)) e
-              ∙ king_known White a r.groups split.ds split.white
+              ∙ white_known
           | inr na ↦ elim (cases_eq s b) [
             | inl e ↦ ap (λ x. has_state r.groups x s) (ap (slice_index q.cells) e ∙ view.other)
                 ∙ ap (has_state r.groups (king_cell Black)) e
-                ∙ king_known Black b r.groups split.ds split.black
+                ∙ black_known
             | inr nb ↦ ap (λ x. has_state r.groups x s) (view.rest s na nb)
                 ∙ known_too r.groups (slice_index p.cells s) s
                 (board.men s l (λ none. some (view.rest s na nb ∙ none)))
@@ -239,16 +242,15 @@ module _ (p : Board) (a b : ℕ) (size : length p.cells ≡ 64) (la : a < 64) (l
         ]
 
     member : Member r.groups q
-    member =
-        let on = king_squares r i c a b sound split in
-        record {
-          valid = v;
-          men = man_known;
-          counts = counted_all [] r.groups sound.lines.groups board.counts
-              (have_kings r.groups a b on.0 on.1);
-        }
+    member = record {
+      valid = v;
+      men = man_known;
+      counts = counted_all [] r.groups sound.lines.groups board.counts
+          (have_kings r.groups a b white black);
+    }
 
-    split_there : IsSplit r.groups (Num r.groups q) c a b
+    -- the position has a number of the configuration
+    pub split_there : IsSplit r.groups (Num r.groups q) c a b
     split_there =
         let gs = r.groups in
         let turn = turn_number gs p.turn p.ep in
@@ -266,8 +268,15 @@ module _ (p : Board) (a b : ℕ) (size : length p.cells ≡ 64) (la : a < 64) (l
               sound.black_king;
         }
 
-    pub has_number : HasNumber r.groups i q
-    has_number = record {
+    numbered : (i : ℕ) → IsSplit r.groups i c a b → HasNumber r.groups i q
+    numbered i split = record {
       member = member;
       number = one_number r (Num r.groups q) i c a b sound split_there split;
     }
+
+  pub has_number : (r : RuleLines) (i c : ℕ) → IsSound r → IsBoardOf r.groups c p →
+      IsSplit r.groups i c a b → HasNumber r.groups i q
+  has_number r i c sound board split =
+      let on = king_squares r i c a b sound split in
+      numbered r c sound board (king_known White a r.groups split.ds split.white)
+      (king_known Black b r.groups split.ds split.black) on.0 on.1 i split

@@ -24,7 +24,7 @@ use Rattle.frz_configurations.proofs.Lemmas.{none_later}
 use Rattle.frz_king_planes.specs.Kings.{king_cell}
 use Rattle.frz_kingless.proofs.CarriedMen.{some_passes}
 
-known_state : (c : Colour) (gs : List GroupLine) (s : ℕ) → is_known gs (king_cell c) s ≡ true →
+pub known_state : (c : Colour) (gs : List GroupLine) (s : ℕ) → is_known gs (king_cell c) s ≡ true →
     has_state gs (king_cell c) s ≡ true
 known_state White gs s h = h
 known_state Black gs s h = h

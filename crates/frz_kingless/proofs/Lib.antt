@@ -5,3 +5,4 @@ mod OnlyPosition
 mod KnownKings
 mod Emptied
 mod Searching
+mod LivePairs

@@ -1,5 +1,5 @@
 -- The search for a number with a position, pair by pair.
-use Rattle.std.proofs.Common.{◌≡◌, ℕ, ◌+◌, ◌*◌, ◌<◌, true, List, [], sym, ◌∙◌, subst, arith, inl, inr}
+use Rattle.std.proofs.Common.{◌≡◌, ℕ, ◌+◌, ◌*◌, ◌<◌, true, List, [], ap, sym, ◌∙◌, subst, arith, inl, inr}
 use Rattle.std.proofs.lemmas.Bool.{and_from, and_parts, cases_eq, cases_lt}
 use Rattle.frz_board.specs.declared.man.Colour.TheVariants.{White, Black}
 use Rattle.frz_sets.specs.Sound.{IsSound}
@@ -23,18 +23,23 @@ NoneBelow gs c n =
 pub none_yet : (gs : List GroupLine) (c : ℕ) → NoneBelow gs c 0
 none_yet gs c i a b l split = absurd (omega arith)
 
+-- the pairs of the same groups
+pub of_groups : (gs hs : List GroupLine) (pairs : List ℕ) → gs ≡ hs →
+    IsPlaneOf pairs (are_known gs) → IsPlaneOf pairs (are_known hs)
+of_groups gs hs pairs e h a b la lb = h a b la lb ∙ ap (λ xs. are_known xs a b) e
+
 module _ (r : RuleLines) (sound : IsSound r) (c : ℕ) (pairs : List ℕ)
     (are : IsPlaneOf pairs (are_known r.groups)) where
-  on_white : (i a b : ℕ) → IsSplit r.groups i c a b → a < 64
+  pub on_white : (i a b : ℕ) → IsSplit r.groups i c a b → a < 64
   on_white i a b split =
       king_on_board White a [] r.groups split.ds sound.lines.groups split.white
 
-  on_black : (i a b : ℕ) → IsSplit r.groups i c a b → b < 64
+  pub on_black : (i a b : ℕ) → IsSplit r.groups i c a b → b < 64
   on_black i a b split =
       king_on_board Black b [] r.groups split.ds sound.lines.groups split.black
 
   -- a number's pair is among those of the groups of kings
-  split_known : (i a b : ℕ) → IsSplit r.groups i c a b → has_pair pairs a b ≡ true
+  pub split_known : (i a b : ℕ) → IsSplit r.groups i c a b → has_pair pairs a b ≡ true
   split_known i a b split =
       are a b (on_white i a b split) (on_black i a b split)
       ∙ and_from (is_known r.groups (king_cell White) a) (is_known r.groups (king_cell Black) b)

@@ -3,5 +3,7 @@
 
 mod finding;
 pub mod laws;
+mod living;
 
 pub use finding::board_of;
+pub use living::live_pairs;

@@ -4,18 +4,13 @@ use Rattle.frz_board.specs.declared.man.Colour.TheVariants.{White, Black}
 use Rattle.frz_board.specs.Boards.{Board}
 use Rattle.frz_sets.specs.Views.{GroupLine}
 use Rattle.frz_index.specs.Members.{Broken, HasNumber}
-use Rattle.frz_planes.specs.Planes.{HasNoneFrom, IsNext, IsPlaneOf}
+use Rattle.frz_planes.specs.Planes.{HasNoneFrom, IsNext}
 use Rattle.frz_configurations.specs.Configurations.{IsSplit}
 use Rattle.frz_configurations.specs.Joined.{IsKingSquare}
-use Rattle.frz_kingless.specs.Boards.{HasNoPosition, IsBoardOf, are_known}
+use Rattle.frz_kingless.specs.Boards.{HasNoPosition, IsBoardOf}
 use Rattle.frz_kingless.proofs.Emptied.{is_board}
-use Rattle.frz_kingless.proofs.Searching.{NoneBelow, black_square, none_at_all, none_more, white_square}
+use Rattle.frz_kingless.proofs.Searching.{NoneBelow, black_square, none_at_all, none_more, of_groups, white_square}
 use Rattle.frz_kingless.proofs.finding.board_of.Goals as goal
-
--- the pairs are those of the rules' groups
-of_groups : (gs hs : List GroupLine) (pairs : List ℕ) → gs ≡ hs → IsPlaneOf pairs (are_known gs) →
-    IsPlaneOf pairs (are_known hs)
-of_groups gs hs pairs e h a b la lb = h a b la lb ∙ ap (λ xs. are_known xs a b) e
 
 pub number-number-requires-clause-white : goal.number-number-requires-clause-white
 number-number-requires-clause-white c =
@@ -83,14 +78,13 @@ loop-a-preserved c =
     let L : List GroupLine → Type 0 = λ xs. NoneBelow xs k c.loop-a.n in
     let below = subst L c.requires.set c.loop-a.invariant.1 in
     let M : List GroupLine → Type 0 = λ xs. NoneBelow xs k (64 * a + b + 1) in
-    let same : 64 * a + b + 1 ≡ 64 * c.from.result + c.from-in-Some.result + 1 = omega arith in
-    (
+    let same : 64 * a + b + 1 ≡ 64 * c.from.result + c.from-in-Some.result + 1 = omega arith in (
       omega arith,
       subst (NoneBelow gs k) same
-      (subst M (sym c.requires.set)
-      (none_more r c.requires.sound k pairs
-      (of_groups gs r.groups pairs c.requires.set c.known_pairs-pairs.ensures) c.loop-a.n i a b below
-      next at broken)),
+          (subst M (sym c.requires.set)
+          (none_more r c.requires.sound k pairs
+          (of_groups gs r.groups pairs c.requires.set c.known_pairs-pairs.ensures) c.loop-a.n i a b below
+          next at broken)),
     )
 
 pub returns : goal.returns
