@@ -1,4 +1,5 @@
-//! Boards of configurations: all men of a set's position but the kings.
+//! Boards of configurations: all men of a position but the kings, and the pairs on which kings make
+//! positions of the set.
 #![tactic(auto)]
 
 mod finding;
