@@ -26,8 +26,8 @@ fn open_squares(p: &Bitboards, s: Square, by: Colour) -> u64
     word
 }
 
-/// The pairs of a king's square and the other king's on which a man of the side attacks the king, or
-/// the kings adjoin.
+/// The pairs of a king's square and the other king's on which a man of the side attacks the king,
+/// or the kings adjoin.
 fn attacked_first(p: &Bitboards, by: Colour) -> Plane
     ensures { IsPlaneOf result (λ s t. is_attacked_past p.now s by t || is_king_step s t) }
 {

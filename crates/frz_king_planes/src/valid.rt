@@ -23,8 +23,8 @@ fn room_pairs(p: &Bitboards) -> Plane
     pairs
 }
 
-/// Is the position that the kings make on these pairs valid, attacks apart? So it is on all of them,
-/// or on none.
+/// Is the position that the kings make on these pairs valid, attacks apart? So it is on all of
+/// them, or on none.
 fn is_shaped(p: &Bitboards, pairs: &Plane) -> bool
     requires { (a b : ℕ) → a < 64 → b < 64 → has_pair pairs.now a b ≡ true →
         are_rooms p.now a b ≡ true }
