@@ -1,3 +1,5 @@
+-- Other crates cite the module Lemmas alone.
+pub mod Lemmas
 mod OtherDigits
 mod KingStates
 mod OneNumber

@@ -43,7 +43,7 @@ later n (u ∷ states) (suc j) (suc k) s t h l e f =
     later (state_number u + 1) states j k s t h.2 (omega arith) e f
 
 -- a state stands at one place
-one_place : (states : List (Kind × ℕ)) (j k : ℕ) (s : Kind × ℕ) → AreIncreasingFrom 0 states →
+pub one_place : (states : List (Kind × ℕ)) (j k : ℕ) (s : Kind × ℕ) → AreIncreasingFrom 0 states →
     slice_get states j ≡ Some s → slice_get states k ≡ Some s → j ≡ k
 one_place states j k s h e f =
     elim (cases_lt j k) [
@@ -143,7 +143,7 @@ one_number r i j c a b sound h k =
     same_king Black none = record { state = (King, b); one = h.black; other = k.black }
 
 -- behind groups with kings of the colour none has any
-none_later : (c : Colour) (earlier gs : List GroupLine) (k : ℕ) (g : GroupLine) →
+pub none_later : (c : Colour) (earlier gs : List GroupLine) (k : ℕ) (g : GroupLine) →
     AreSoundAfter earlier gs → has_king_group earlier c ≡ true → slice_get gs k ≡ Some g →
     g.colour ≡ c → has_kings g ≡ true → ⊥
 none_later c earlier [] k g sound there e colour kings = absurd cc

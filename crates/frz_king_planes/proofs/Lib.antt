@@ -1,0 +1,9 @@
+-- Other crates cite the module Lemmas alone.
+pub mod Lemmas
+mod Rows
+mod OpenSquares
+mod Crowned
+mod AttackedPast
+mod Rooms
+mod Shaped
+mod ValidPairs

@@ -1,0 +1,8 @@
+mod OtherMen
+mod KingGroups
+mod CarriedMen
+mod OnlyPosition
+mod KnownKings
+mod Emptied
+mod Searching
+mod LivePairs

@@ -1,0 +1,2 @@
+-- Boards of configurations.
+pub mod Boards
