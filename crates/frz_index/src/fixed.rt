@@ -42,6 +42,7 @@ fn put_if_fixed(p: &mut Bitboards, triangle: &Triangle, group: &Group) -> bool
 /// Puts the men of the group's digit on the board if it is loose. The digit is the quotient of
 /// `rest` and the group's weight. It stops at the first man whose square is not empty, and answers
 /// `false`.
+#[inline(always)]
 pub(crate) fn put_if_loose(
     p: &mut Bitboards,
     triangle: &Triangle,
@@ -65,6 +66,7 @@ pub(crate) fn put_if_loose(
 
 /// Puts the men of the fixed groups on the board. It stops at the first man whose square is not
 /// empty, and answers `false`; it answers `true` if all could be put.
+#[inline(never)]
 fn put_fixed(p: &mut Bitboards, triangle: &Triangle, groups: &[Group]) -> bool
     requires numberable { AreNumberable groups.now }
     requires rows { triangle.now ≡ MOST_STATES + 1 }
@@ -110,6 +112,7 @@ pub(crate) fn fixed_boards(triangle: &Triangle, groups: &[Group]) -> Option<Fixe
 
 /// The board with the fixed men alone, with this side to move and this target. `None` if two of
 /// them would stand on one square.
+#[inline(always)]
 pub(crate) fn fixed_board(
     boards: &Option<FixedBoards>,
     turn: Colour,

@@ -124,6 +124,7 @@ fn put_one(p: &mut Bitboards, colour: Colour, states: &[(Kind, Square)], rank: u
 
 /// Puts on the board the men that a group's digit stands for. It stops at the first man whose
 /// square is not empty, and answers `false`; it answers `true` if all could be put.
+#[inline(always)]
 pub(crate) fn put(p: &mut Bitboards, triangle: &Triangle, group: &Group, digit: u32) -> bool
     requires numberable { IsCounted group.now }
     requires rows { length group.now.states < triangle.now }
