@@ -56,7 +56,14 @@ pub fn build_over<S: Store, L: Ledger>(
     }
     let kind = FileKind::Atlas;
     let file = NewTable { name, kind, text };
-    build_ruled(alloc, rules, &AtlasBook::new(rules, backs), &file, store, steps)
+    build_ruled(
+        alloc,
+        rules,
+        &AtlasBook::new(rules, backs),
+        &file,
+        store,
+        steps,
+    )
 }
 
 /// Reads the rules of the text, then opens and checks the tables behind from the left, and writes

@@ -9,6 +9,4 @@ mod names;
 
 pub use asked::{Asked, asked_names};
 pub use ending::end_at;
-pub use names::{
-    MOST_BACKS, build_names, has_twice, is_among, names_with_backs,
-};
+pub use names::{MOST_BACKS, build_names, has_twice, is_among, names_with_backs};

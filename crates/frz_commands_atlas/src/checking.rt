@@ -12,7 +12,7 @@ ghost use Rattle.frz_commands_atlas.specs.CheckMeans.{checking_at, check_words};
 use crate::verdict_lines::{status_of, write_verdict};
 use frz_answer::{End, refuse, said};
 use frz_atlas::check_atlas;
-use frz_atlas_prelude::{names_with_backs, end_at};
+use frz_atlas_prelude::{end_at, names_with_backs};
 use frz_steps::Steps;
 use frz_store::{Sink, Store};
 use std::alloc::Global;

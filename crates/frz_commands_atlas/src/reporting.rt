@@ -17,7 +17,7 @@ ghost use Rattle.frz_commands_atlas.specs.Reporting.{reporting_at, report_words}
 
 use frz_answer::{End, refuse};
 use frz_atlas::{LoadedAtlas, load_atlas};
-use frz_atlas_prelude::{names_with_backs, end_at};
+use frz_atlas_prelude::{end_at, names_with_backs};
 use frz_backs::{AtlasBook, BackTable};
 use frz_exits::{ExitBook, RuleBook};
 use frz_game::{Game, Pair};
@@ -76,7 +76,13 @@ fn report_loaded<O: Sink, L: Ledger>(
     let rules = table.table.rules();
     match table.table.kind() {
         FileKind::Atlas => {
-            report_by(alloc, table, &AtlasBook::new(rules, &loaded.backs), out, steps)
+            report_by(
+                alloc,
+                table,
+                &AtlasBook::new(rules, &loaded.backs),
+                out,
+                steps,
+            )
         }
         _ => report_by(alloc, table, &RuleBook::new(rules), out, steps),
     }

@@ -97,7 +97,11 @@ const OTHERS: &[Said] = &[
         5,
         "table: chained, ask freezer chainquery\n",
     ),
-    Said(&["report", "F.t"], 5, "table: former, ask freezer migrate\n"),
+    Said(
+        &["report", "F.t"],
+        5,
+        "table: former, ask freezer migrate\n",
+    ),
     Said(
         &["query", "O.t", rook::CORNER],
         5,
