@@ -15,7 +15,7 @@ use Rattle.frz_backs.specs.Books.{Back}
 use Rattle.frz_backs.specs.Links.{AreTrueLines}
 use Rattle.frz_backs.specs.Values.{atlas_value, own_value}
 use Rattle.frz_backs.proofs.Lemmas.{exits_over_true}
-use Rattle.frz_atlas.specs.Behind.{AreJudged, TableBytes, link_of}
+use Rattle.frz_atlas.specs.Behind.{backs_in, AreJudged, TableBytes, link_of}
 use Rattle.frz_atlas.specs.Loading.{opened_all}
 use Rattle.frz_atlas.specs.declared.fault.BackFault.TheVariants.{Refused}
 use Rattle.frz_atlas.proofs.Lemmas.{judged_exact, links_backs}
