@@ -350,7 +350,7 @@ module _ (laws : JourneyLaws) (player : Player) (table : List ℕ) (behind : Lis
           (laws.right player.opponent side links own Own p (first_input heard) h.stages h.left
           (record {
             behind = exact;
-            own = record { set = refl; white = keeps White; black = keeps Black };
+            own = record { set = refl; lines = refl; white = keeps White; black = keeps Black };
           }) inside h.journey)
 
       means_status : (status : Status) → a.status ≡ status
