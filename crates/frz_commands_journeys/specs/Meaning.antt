@@ -108,8 +108,8 @@ pub record TellsJourney (player : Player) (table : List ℕ) (behind : List (Lis
   pub where_exact : KeepsItsTables has →
       KeepsBound has.files_open.contents.rules (value_behind has) player.side p (start_code has)
   pub true_exits : AreExact (map link_of has.files_open.tables) →
-      AreTrueExits has.files_open.contents.rules (own_value has.files_open.contents.rules
-      (backs_of (map link_of has.files_open.tables))) →
+      AreTrueExits has.files_open.contents.rules (own_over (leans has.files_open.bytes)
+      has.files_open.contents.rules (backs_of (map link_of has.files_open.tables))) →
       AreTrueLines (map link_of has.files_open.tables) →
       AreTrueExits has.files_open.contents.rules (value_behind has)
 
