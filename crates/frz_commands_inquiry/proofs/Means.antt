@@ -45,7 +45,7 @@ module _ (table : List ℕ) (behind : List (List ℕ)) (files : Files) (input : 
           white = bound_kept value contents bytes kept White p inside;
           black = bound_kept value contents bytes kept Black p inside;
           told = ap (λ (o : Option ℕ). found_or (outside_text own (backs_in opens.tables) p)
-              (codes_at own.back o)) 
+              (codes_at own.back o))
               (number_there contents.rules.groups p
               (of_member contents.rules.groups p inside));
         }
