@@ -12,5 +12,5 @@ mod lines;
 pub use book::AtlasBook;
 pub use codes::codes_on;
 pub use counts::{Counts, lines_count};
-pub use lines::{leans, line_over};
 pub use frz_chain::{BackTable, NewTable, ReadRules, build_ruled};
+pub use lines::{leans, line_over};

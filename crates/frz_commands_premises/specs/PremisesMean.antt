@@ -31,25 +31,25 @@ use Rattle.frz_commands_premises.specs.SidesMean.{StrengthMeans}
 -- what is told of the exit lines of a text, with these tables, on which it leans or not
 pub record LinesMean (leans : Bool) (text : List ℕ) (rules : RuleLines) (links : List Link) : Type 0
   where
-  -- there is a number for each exit line, and the line with this number says what the exit does
-  pub numbered : length (exit_numbers_of text) ≡ length rules.exits
-  pub said : (k n : ℕ) → slice_get (exit_numbers_of text) k ≡ Some n →
-      exit_on_line text n ≡ slice_get rules.exits k
-  -- a line that is not believed is true at each exit that it decides, where the exit lines of the
-  -- tables are true
-  pub not_believed : AreTrueLines links → (i : ℕ) (line : ExitLine) →
-      slice_get rules.exits i ≡ Some line →
-      is_believed (basis_of leans rules links i line) ≡ false → (q : Board) →
-      IsExit (game_of rules (value_by rules)) q → decides leans rules links i q ≡ true →
-      IsTrueValue line.value q
-  -- what the word that is told of a line says of it, at every exit that it decides
-  pub rests : (i : ℕ) (line : ExitLine) → slice_get rules.exits i ≡ Some line →
-      RestsOn leans rules links i line (basis_of leans rules links i line)
-  -- the line decides the position that is told of a believed one, which is an exit, and neither the
-  -- men there nor a table show what it says
-  pub believed : (i : ℕ) (line : ExitLine) (q : Board) →
-      basis_of leans rules links i line ≡ Believed q →
-      NeedsBelief leans rules (value_by rules) links i line q
+    -- there is a number for each exit line, and the line with this number says what the exit does
+    pub numbered : length (exit_numbers_of text) ≡ length rules.exits
+    pub said : (k n : ℕ) → slice_get (exit_numbers_of text) k ≡ Some n →
+        exit_on_line text n ≡ slice_get rules.exits k
+    -- a line that is not believed is true at each exit that it decides, where the exit lines of the
+    -- tables are true
+    pub not_believed : AreTrueLines links → (i : ℕ) (line : ExitLine) →
+        slice_get rules.exits i ≡ Some line →
+        is_believed (basis_of leans rules links i line) ≡ false → (q : Board) →
+        IsExit (game_of rules (value_by rules)) q → decides leans rules links i q ≡ true →
+        IsTrueValue line.value q
+    -- what the word that is told of a line says of it, at every exit that it decides
+    pub rests : (i : ℕ) (line : ExitLine) → slice_get rules.exits i ≡ Some line →
+        RestsOn leans rules links i line (basis_of leans rules links i line)
+    -- the line decides the position that is told of a believed one, which is an exit, and neither the
+    -- men there nor a table show what it says
+    pub believed : (i : ℕ) (line : ExitLine) (q : Board) →
+        basis_of leans rules links i line ≡ Believed q →
+        NeedsBelief leans rules (value_by rules) links i line q
 
 -- so it is of each table's text, with the tables before it
 unfoldable pub AllLinesMean : List Link → List TextLink → Type 0

@@ -176,14 +176,7 @@ pub fn premise_lines<L: Ledger>(
     add_behind(alloc, &mut lines, backs, steps)?;
     lines.push(Line::Rules)?;
     add_text(
-        alloc,
-        &mut lines,
-        true,
-        &read.text,
-        rules,
-        set,
-        backs,
-        steps,
+        alloc, &mut lines, true, &read.text, rules, set, backs, steps,
     )?;
     let believed = count_beliefs(&lines);
     lines.push(Line::Believed(believed))?;

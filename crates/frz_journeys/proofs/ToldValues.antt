@@ -122,8 +122,12 @@ lines_or table leans before q v Draw e own is gone = inl (e ∙ sym is)
 lines_or table leans before q v WhiteHolds e own is gone = inl (e ∙ sym is)
 lines_or table leans before q v BlackHolds e own is gone = inl (e ∙ sym is)
 lines_or table leans before q v Unknown e own is gone =
-    inr (leans, e, sym (is ∙ first_silent (counts_of (backs_of before))
-    (value_behind table.rules q) 0 before q own gone))
+    inr (
+      leans,
+      e,
+      sym (is ∙ first_silent (counts_of (backs_of before))
+          (value_behind table.rules q) 0 before q own gone),
+    )
 lines_or table leans before q v (WhiteWinsIn n) e own is gone = inl (e ∙ sym is)
 lines_or table leans before q v (BlackWinsIn n) e own is gone = inl (e ∙ sym is)
 

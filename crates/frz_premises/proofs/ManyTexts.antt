@@ -23,11 +23,11 @@ text_by_text before (link ∷ links) proves told exact holds =
     map-append (λ (l : Link). l.back) before (link ∷ []) in (
       mine,
       subst (λ (bs : List Back). AreTrueLinesOver bs links) same
-      (text_by_text (before ++ link ∷ []) links
-      (All-push Proves before link proves (link_proves link backs exact.0 told mine))
-      (subst (λ (bs : List Back). AllTellTrue bs) (sym same)
-      (link_true link backs exact.0 told mine))
-      (subst (λ (bs : List Back). AreExactOver bs links) (sym same) exact.1) holds.1),
+          (text_by_text (before ++ link ∷ []) links
+          (All-push Proves before link proves (link_proves link backs exact.0 told mine))
+          (subst (λ (bs : List Back). AllTellTrue bs) (sym same)
+          (link_true link backs exact.0 told mine))
+          (subst (λ (bs : List Back). AreExactOver bs links) (sym same) exact.1) holds.1),
     )
 
 pub all_true : (links : List Link) → AreExact links → BeliefsHold links → AreTrueLines links

@@ -20,13 +20,7 @@ use frz_steps::Steps;
 use std::sync::ledger::Ledger;
 
 /// Notes an exit with the line that decides it.
-fn note(
-    trials: &mut [Trial],
-    leans: bool,
-    rules: &Rules,
-    backs: &[BackTable],
-    q: &Bitboards,
-)
+fn note(trials: &mut [Trial], leans: bool, rules: &Rules, backs: &[BackTable], q: &Bitboards)
     requires valid { IsValid q.now }
     requires sound { IsSound rules.now }
     requires tried { (qs : List Board)

@@ -59,13 +59,21 @@ const ROWS: &[Said] = &[
         "white wins within 9\nblack none\n",
     ),
     // Where one table does not tell the plies, no win behind counts.
-    Said(&["build", "rook", "U", "untold.t", "next.t"], 0, "built 8\n"),
+    Said(
+        &["build", "rook", "U", "untold.t", "next.t"],
+        0,
+        "built 8\n",
+    ),
     Said(
         &["query", "U", rook::NEXT_TO_IT],
         0,
         "white wins within 2\nblack none\n",
     ),
-    Said(&["build", "rook", "V", "next.t", "untold.t"], 0, "built 8\n"),
+    Said(
+        &["build", "rook", "V", "next.t", "untold.t"],
+        0,
+        "built 8\n",
+    ),
     Said(
         &["query", "V", rook::NEXT_TO_IT],
         0,
@@ -79,7 +87,11 @@ const ROWS: &[Said] = &[
         "white wins within 8\nblack none\n",
     ),
     // A table that has it is asked before that line.
-    Said(&["build", "guessed", "H", "own.t", "next.t"], 0, "built 8\n"),
+    Said(
+        &["build", "guessed", "H", "own.t", "next.t"],
+        0,
+        "built 8\n",
+    ),
     Said(
         &["query", "H", rook::NEXT_TO_IT],
         0,
