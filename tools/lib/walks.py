@@ -78,17 +78,13 @@ def walk(game, side, codes, number, source=None):
     return way(game, side, codes, number, source)[:2]
 
 
-def way(game, side, codes, number, source, repeats=False):
-    """Status, text, and the move by which the way leaves the set, if it does. A line that `repeats` ends where
-    a position comes again."""
+def way(game, side, codes, number, source):
+    """Status, text, and the move by which the way leaves the set, if it does."""
     text, refused = begin_or_refuse(game, side, codes, number)
     if refused is not None:
         return *refused, None
-    plies, seen = 0, set()
+    plies = 0
     while True:
-        if repeats and source is None and number in seen:
-            return 0, text + "repeated\n", None
-        seen.add(number)
         if (wrong := wrong_at(game, side, codes, number)) is not None:
             return wrong[0], text + wrong[1], None
         if (last := end_at(game, number)) is not None:
@@ -112,11 +108,11 @@ def way(game, side, codes, number, source, repeats=False):
 def walk_over(table, backs, side, number, source=None):
     """Status and text of `line` or `play` of `atlas`, from a number of the first table. Each has its game and its
     codes, and may lean on those before it."""
-    status, text, arm = way(table.game, side, table.codes[side], number, source, True)
+    status, text, arm = way(table.game, side, table.codes[side], number, source)
     while arm is not None and (place := behind_at(table.game, arm.end)) is not None:
         table, position = backs[place], arm.end
         number = table.game.set.number(position)
-        status, more, arm = way(table.game, side, table.codes[side], number, source, True)
+        status, more, arm = way(table.game, side, table.codes[side], number, source)
         text += f"back {place + 1}\n" + (named(more, place) if status == 6 else more)
     return status, text
 

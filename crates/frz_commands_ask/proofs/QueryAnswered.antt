@@ -1,5 +1,5 @@
 -- A query of a table file that opens is answered by its position: nothing is refused but the FEN.
-use Rattle.std.proofs.Common.{◌≡◌, refl, sym, ap, subst, ◌∙◌, ℕ, List, [], ◌∷◌, Some, None, Result, Ok, Err}
+use Rattle.std.proofs.Common.{◌≡◌, refl, sym, ap, subst, ◌∙◌, ℕ, List, [], ◌∷◌, Option, Some, None, Result, Ok, Err}
 use Rattle.frz_board.specs.Boards.{Board}
 use Rattle.frz_fen.specs.declared.fault.FenFault.{FenFault}
 use Rattle.frz_store.specs.Files.{Files}

@@ -1,5 +1,5 @@
 -- How `query` ends where something stopped it, and that it has one answer.
-use Rattle.std.proofs.Common.{◌≡◌, refl, sym, ap, subst, ℕ, ◌≤◌, List, [], ◌∷◌, Bool, true, false, Option, Result, Ok, Err, if◌then◌else◌, arith}
+use Rattle.std.proofs.Common.{◌≡◌, refl, sym, ap, subst, ℕ, ◌≤◌, List, [], ◌∷◌, Bool, true, false, Option, Some, Result, Ok, Err, if◌then◌else◌, arith}
 use Rattle.std.specs.Option.{unwrap_or}
 use Rattle.frz_store.specs.Files.{Files}
 use Rattle.frz_board.specs.Boards.{Board}
@@ -108,7 +108,7 @@ querying_words_lawful kind words =
     (λ p read. querying_lawful kind names.0 p))
 
 pub query_lawful : (words : List (List ℕ)) → IsLawful (query_words words)
-query_lawful words = querying_words_lawful Plain words
+query_lawful words = querying_words_lawful (Some Plain) words
 
 pub chainquery_lawful : (words : List (List ℕ)) → IsLawful (chainquery_words words)
-chainquery_lawful words = querying_words_lawful Chained words
+chainquery_lawful words = querying_words_lawful (Some Chained) words

@@ -14,6 +14,7 @@ use Rattle.frz_table.specs.declared.kind.FileKind.{FileKind}
 use Rattle.frz_table.specs.Opening.{Contents, opened, format_for}
 use Rattle.frz_table.proofs.Lemmas.{opened_missing}
 use Rattle.frz_check.proofs.Lemmas.{bound_kept}
+use Rattle.frz_answer.specs.declared.status.Status.{Status}
 use Rattle.frz_answer.specs.Answers.{Answer}
 use Rattle.frz_bound_lines.specs.BoundLines.{side_name, bound_line, bounds_text, kept_line, kept_text}
 use Rattle.frz_prelude.specs.declared.refused.Refused.{Refused}

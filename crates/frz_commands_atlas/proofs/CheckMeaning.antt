@@ -21,7 +21,7 @@ use Rattle.frz_check.specs.declared.verdict.Verdict.TheVariants as verdicts
 use Rattle.frz_check.specs.Kept.{kept_codes}
 use Rattle.frz_check.proofs.Lemmas.{one_file_holds, one_file_opens, tables_are_one}
 use Rattle.frz_backs.specs.Books.{Back}
-use Rattle.frz_backs.specs.Links.{AreExact, AreTrueLines, Link, backs_of, value_over}
+use Rattle.frz_backs.specs.Links.{AreExact, AreTrueLines, Link, backs_of, own_over, value_over}
 use Rattle.frz_backs.proofs.Lemmas.{over_small, exits_over_true, mates_within, outcomes_over, tables_decide}
 use Rattle.frz_answer.specs.declared.status.Status.{Status}
 use Rattle.frz_answer.specs.declared.status.Status.TheVariants as statuses
@@ -66,7 +66,8 @@ module _ (table : List ℕ) (behind : List (List ℕ)) (files : Files) (are : Ho
         (λ (backs : List Back). (side : Colour) → IsTableOf rules (value_over (leans h.bytes) rules backs) side
         (kept_codes h.contents h.bytes side)) (sym (links_backs h.tables)) h.judged
 
-    exits_so : (b : Bool) → AreTrueLines links → AreTrueExits rules (value_by rules)
+    exits_so : (b : Bool) → AreTrueLines links
+        → AreTrueExits rules (own_over b rules (backs_of links))
         → AreTrueExits rules (value_over b rules (backs_of links))
     exits_so true lines own = exits_over_true rules links links_exact lines own
     exits_so false lines own = own

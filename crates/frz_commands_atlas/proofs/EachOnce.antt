@@ -15,14 +15,14 @@ use Rattle.frz_table.specs.declared.fault.TableFault.{TableFault}
 use Rattle.frz_table.specs.Opening.{Contents, opened, own_format}
 use Rattle.frz_table.proofs.Lemmas.{opened_missing}
 use Rattle.frz_atlas_prelude.proofs.Lemmas.{own_refused_means}
-use Rattle.frz_answer.specs.Answers.{Answer, SomeAnswer, says}
+use Rattle.frz_answer.specs.Answers.{Answer, SomeAnswer}
 use Rattle.frz_answer.specs.Lawful.{HasOneAnswer, IsLawful}
 use Rattle.frz_answer.specs.Words.{two_words_of}
 use Rattle.frz_answer.proofs.Lemmas.{behind_said, said_job, taking_lawful}
 use Rattle.frz_prelude.specs.Positions.{on_position}
 use Rattle.frz_prelude.specs.declared.refused.Refused.{Refused}
 use Rattle.frz_prelude.specs.declared.refused.Refused.TheVariants as refusals
-use Rattle.frz_prelude.proofs.Lemmas.{fen_lawful, refusal_said, refused_means}
+use Rattle.frz_prelude.proofs.Lemmas.{fen_lawful, refusal_said}
 use Rattle.frz_commands_atlas.specs.declared.rows.Row.{Row}
 use Rattle.frz_commands_atlas.specs.Each.{AreRowsBy, AreRowsOf, IsEachAt, answer_by}
 use Rattle.frz_commands_atlas.specs.EachMeans.{MeansEach, MeansEachBy, each_at, each_words}

@@ -2,6 +2,8 @@
 ghost use Rattle.std.specs.Prelude.{◌≡◌, ◌≤◌, ◌<◌, ◌+◌, ◌++◌, codes, length, map};
 ghost use Rattle.frz_fide.specs.Valid.{IsValid};
 ghost use Rattle.frz_fen.specs.declared.fault.FenFault.{FenFault};
+ghost use Rattle.frz_sets.specs.declared.exit.Value.TheVariants.{Unknown};
+ghost use Rattle.frz_exits.specs.Books.{value_by};
 ghost use Rattle.frz_store.specs.Told.{sink_of};
 ghost use Rattle.frz_answer.specs.Texts.{WroteText};
 ghost use Rattle.frz_ways.specs.Texts.{value_text};
@@ -10,13 +12,12 @@ ghost use Rattle.frz_backs.specs.FileOn.{loaded_back};
 ghost use Rattle.frz_backs.specs.Loaded.{leans_as, link_loaded};
 ghost use Rattle.frz_atlas_prelude.specs.BackLines.{back_word};
 ghost use Rattle.frz_atlas_prelude.specs.declared.names.TheConstants.{MOST_BACKS};
-ghost use Rattle.frz_commands_why.specs.Deciders.{leaning_on};
-ghost use Rattle.frz_commands_inquiry.specs.Places.{behind_text, both_text, code_words, outside_text, place_text, reply_to, side_text};
+ghost use Rattle.frz_commands_inquiry.specs.Places.{behind_text, both_text, code_words, exit_or, last_value as value_last, leaning_on, outside_text, place_text, reply_to, side_text};
 
 use crate::trimming::trimmed;
 use frz_answer::{End, write_numbered, write_piece};
 use frz_arena::{Bound, bound_of};
-use frz_backs::{BackTable, codes_on};
+use frz_backs::{AtlasBook, BackTable, codes_on, leans};
 use frz_bits::Bitboards;
 use frz_board::{Colour, Position};
 use frz_bound_lines::{write_kept_words, write_side_name};
@@ -66,24 +67,44 @@ fn write_at<O: Sink>(place: usize, white: u32, black: u32, out: &mut O) -> Resul
     write_both(white, black, out)
 }
 
-/// Writes the codes in the first of these tables whose set has the position; the first of them
-/// stands at this place.
+fn write_exit<O: Sink>(value: Value, out: &mut O) -> Result<(), Failed>
+    ensures { WroteText (codes "exit " ++ value_text value) result
+        (sink_of O.Sink out.old) (sink_of O.Sink out.new) }
+{
+    write_piece(b"exit ", out)?;
+    write_value(value, out)
+}
+
+/// Writes the value that is asked last, or that nothing is known of the position.
+fn write_last<O: Sink>(last: Value, out: &mut O) -> Result<(), Failed>
+    ensures { WroteText (exit_or (codes "outside") last) result
+        (sink_of O.Sink out.old) (sink_of O.Sink out.new) }
+{
+    match last {
+        Value::Unknown => write_piece(b"outside", out),
+        value => write_exit(value, out),
+    }
+}
+
+/// Writes the codes in the first of these tables whose set has the position, and the last value
+/// where no set has it; the first of them stands at this place.
 fn write_behind<O: Sink>(
     place: usize,
+    last: Value,
     backs: &[BackTable],
     q: &Bitboards,
     out: &mut O,
 ) -> Result<(), Failed>
     requires valid { IsValid q.now }
     requires few { place + length backs.now ≤ MOST_BACKS }
-    ensures { WroteText (behind_text place (map loaded_back backs.now) q.now) result
+    ensures { WroteText (behind_text place last (map loaded_back backs.now) q.now) result
         (sink_of O.Sink out.old) (sink_of O.Sink out.new) }
 {
     match backs {
-        [] => write_piece(b"outside", out),
+        [] => write_last(last, out),
         [back, rest @ ..] => match codes_on(back, q) {
             Some((white, black)) => write_at(place, white, black, out),
-            None => write_behind(place + 1, rest, q, out),
+            None => write_behind(place + 1, last, rest, q, out),
         },
     }
 }
@@ -100,12 +121,17 @@ fn leaning<'a>(own: &BackTable, backs: &'a [BackTable]) -> &'a [BackTable]
     }
 }
 
-fn write_exit<O: Sink>(value: Value, out: &mut O) -> Result<(), Failed>
-    ensures { WroteText (codes "exit " ++ value_text value) result
-        (sink_of O.Sink out.old) (sink_of O.Sink out.new) }
+/// The value by the exit lines behind all tables, of a position of which those before say nothing;
+/// only a table that leans on others has such lines.
+fn last_value(own: &BackTable, q: &Bitboards) -> Value
+    requires valid { IsValid q.now }
+    requires unknown { value_by own.now.table.rules q.now ≡ Unknown }
+    ensures { result ≡ value_last (link_loaded own.now) q.now }
 {
-    write_piece(b"exit ", out)?;
-    write_value(value, out)
+    match leans(own) {
+        true => AtlasBook::new(own.table.rules(), &[]).value_on(q),
+        false => Value::Unknown,
+    }
 }
 
 /// Writes what is known of a position outside the set of the table.
@@ -121,7 +147,7 @@ fn write_outside<O: Sink>(
         (sink_of O.Sink out.old) (sink_of O.Sink out.new) }
 {
     match RuleBook::new(own.table.rules()).value_on(q) {
-        Value::Unknown => write_behind(0, leaning(own, backs), q, out),
+        Value::Unknown => write_behind(0, last_value(own, q), leaning(own, backs), q, out),
         value => write_exit(value, out),
     }
 }

@@ -22,7 +22,7 @@ use Rattle.frz_check.proofs.Lemmas.{bound_kept}
 use Rattle.frz_sets.specs.Views.{RuleLines}
 use Rattle.frz_game.specs.Values.{AreTrueExits}
 use Rattle.frz_exits.specs.Books.{value_by}
-use Rattle.frz_backs.specs.Links.{AreExact, AreTrueLines, Link, backs_of, value_over}
+use Rattle.frz_backs.specs.Links.{AreExact, AreTrueLines, Link, backs_of, own_over, value_over}
 use Rattle.frz_backs.proofs.Lemmas.{exits_over_true}
 use Rattle.frz_atlas.specs.Behind.{TableBytes, leans, link_of}
 use Rattle.frz_atlas.specs.Loading.{opened_all}
@@ -116,7 +116,7 @@ own_codes Black contents bytes = refl
 
 -- exits over exact tables are true where the lines are
 exits_so : (leaning : Bool) (rules : RuleLines) (links : List Link) → AreExact links
-    → AreTrueLines links → AreTrueExits rules (value_by rules)
+    → AreTrueLines links → AreTrueExits rules (own_over leaning rules (backs_of links))
     → AreTrueExits rules (value_over leaning rules (backs_of links))
 exits_so true rules links exact lines own = exits_over_true rules links exact lines own
 exits_so false rules links exact lines own = own
@@ -350,7 +350,7 @@ module _ (laws : JourneyLaws) (player : Player) (table : List ℕ) (behind : Lis
           (laws.right player.opponent side links own Own p (first_input heard) h.stages h.left
           (record {
             behind = exact;
-            own = record { set = refl; white = keeps White; black = keeps Black };
+            own = record { set = refl; lines = refl; white = keeps White; black = keeps Black };
           }) inside h.journey)
 
       means_status : (status : Status) → a.status ≡ status

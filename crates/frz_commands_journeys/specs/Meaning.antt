@@ -3,7 +3,6 @@ use Rattle.std.specs.Prelude.{◌≡◌, ◌⊎◌, ℕ, ◌+◌, ◌≤◌, Lis
 use Rattle.frz_board.specs.Boards.{Board}
 use Rattle.frz_board.specs.declared.man.Colour.{Colour}
 use Rattle.frz_sets.specs.declared.exit.Value.{Value}
-use Rattle.frz_exits.specs.Books.{value_by}
 use Rattle.frz_index.specs.Members.{Member, Num}
 use Rattle.frz_store.specs.Files.{Files}
 use Rattle.frz_table.specs.Opening.{Contents}
@@ -13,7 +12,7 @@ use Rattle.frz_arena.specs.declared.bound.Bound.TheVariants.{Wins, Holds}
 use Rattle.frz_arena.specs.Codes.{code_of}
 use Rattle.frz_game.specs.Values.{AreTrueExits}
 use Rattle.frz_game.specs.declared.wrong.Wrong.{Wrong as WrongEntry}
-use Rattle.frz_backs.specs.Links.{AreExact, AreTrueLines, Link, backs_of, value_over}
+use Rattle.frz_backs.specs.Links.{AreExact, AreTrueLines, Link, backs_of, own_over, value_over}
 use Rattle.frz_atlas.specs.Behind.{TableBytes, leans, link_of}
 use Rattle.frz_atlas.specs.Loading.{opened_all}
 use Rattle.frz_answer.specs.declared.status.Status.{Status}
@@ -109,7 +108,8 @@ pub record TellsJourney (player : Player) (table : List ℕ) (behind : List (Lis
   pub where_exact : KeepsItsTables has →
       KeepsBound has.files_open.contents.rules (value_behind has) player.side p (start_code has)
   pub true_exits : AreExact (map link_of has.files_open.tables) →
-      AreTrueExits has.files_open.contents.rules (value_by has.files_open.contents.rules) →
+      AreTrueExits has.files_open.contents.rules (own_over (leans has.files_open.bytes)
+      has.files_open.contents.rules (backs_of (map link_of has.files_open.tables))) →
       AreTrueLines (map link_of has.files_open.tables) →
       AreTrueExits has.files_open.contents.rules (value_behind has)
 

@@ -1,5 +1,5 @@
 -- What is found by the tables that were opened and checked.
-use Rattle.std.proofs.Common.{◌≡◌, ◌+◌, ◌*◌, ◌<◌, ◌≤◌, ◌++◌, ◌∷◌, ◌∙◌, [], ℕ, List, All, ap, arith, length, subst, sym, Option, Some}
+use Rattle.std.proofs.Common.{◌≡◌, ◌+◌, ◌<◌, ◌≤◌, ◌++◌, ◌∷◌, ◌∙◌, [], ℕ, List, All, ap, arith, length, subst, sym, Option, Some}
 use Rattle.std.specs.Prelude.{map, sum_by}
 use Rattle.std.proofs.lemmas.List.{length-append, length-map, map-append}
 use Rattle.frz_board.specs.Boards.{Board}

@@ -1,5 +1,5 @@
 -- The text of the first line, and that of the others.
-use Rattle.std.proofs.Common.{◌≡◌, ◌≤◌, ◌-◌, ◌++◌, ◌∷◌, ◌∙◌, [], ℕ, List, ap, ap₂, arith, drop, get_or, length, sym, take}
+use Rattle.std.proofs.Common.{◌≡◌, ◌≤◌, ◌-◌, ◌++◌, ◌∷◌, ◌∙◌, [], ℕ, List, ap, arith, drop, get_or, length, sym, take}
 use Rattle.std.proofs.lemmas.List.{take_rest}
 use Rattle.frz_commands_premises.specs.declared.line.Line.{Line}
 use Rattle.frz_commands_verdict.specs.Texts.{belief_text, beliefs_text, place_after}

@@ -26,7 +26,7 @@ use Rattle.frz_premises.proofs.Lemmas.{all_true, none_hold}
 use Rattle.frz_commands_premises.specs.PremiseLines.{TextLink, behind_lines, belief_among, links_in, text_link_of}
 use Rattle.frz_commands_premises.proofs.Lemmas.{all_read, behind_mean, count_behind, links_are}
 use Rattle.frz_commands_verdict.specs.declared.verdict.Verdict.{Verdict}
-use Rattle.frz_commands_verdict.specs.Answers.{FindsTables, IsVerdictAt, RefusesTable, answer_over, found, refused}
+use Rattle.frz_commands_verdict.specs.Answers.{FindsTables, IsVerdictAt, RefusesTable, found, refused}
 use Rattle.frz_commands_verdict.specs.Finding.{names_over}
 use Rattle.frz_commands_verdict.specs.VerdictMeans.{IsTrueVerdict, MeansStatus, MeansVerdict, VerdictMeans}
 use Rattle.frz_commands_verdict.specs.Texts.{verdict_text}

@@ -3,7 +3,6 @@ use Rattle.std.proofs.Common.{◌≡◌, ◌<◌, ◌++◌, ◌∷◌, ◌∙◌
 use Rattle.std.specs.Prelude.{codes, map, Some}
 use Rattle.std.proofs.lemmas.List.{length-map, length-append}
 use Rattle.frz_board.specs.Boards.{Board}
-use Rattle.frz_board.specs.declared.man.Colour.TheVariants.{White, Black}
 use Rattle.frz_fen.specs.Writing.{fen_text}
 use Rattle.frz_game.specs.Numbers.{is_member}
 use Rattle.frz_store.specs.Files.{Files}
@@ -12,10 +11,8 @@ use Rattle.frz_answer.specs.Answers.{Answer, says, SomeAnswer}
 use Rattle.frz_answer.specs.Lawful.{HasOneAnswer}
 use Rattle.frz_answer.proofs.Lemmas.{behind_said}
 use Rattle.frz_prelude.specs.Refusals.{refusal_line, status_of}
-use Rattle.frz_prelude.specs.WrongLines.{wrong_line}
 use Rattle.frz_prelude.specs.declared.refused.Refused.TheVariants as refusals
 use Rattle.frz_prelude.proofs.Lemmas.{refusal_said}
-use Rattle.frz_backs.specs.Links.{Link}
 use Rattle.frz_atlas.specs.Behind.{TableBytes, link_of}
 use Rattle.frz_atlas.specs.Held.{all_held}
 use Rattle.frz_atlas.specs.declared.fault.BackFault.{BackFault}
@@ -28,8 +25,7 @@ use Rattle.frz_commands_premises.specs.declared.line.Line.TheVariants.{Believed}
 use Rattle.frz_commands_premises.specs.LineTexts.{line_text}
 use Rattle.frz_commands_premises.specs.PremiseLines.{behind_lines, belief_among, text_link_of, links_in}
 use Rattle.frz_commands_verdict.specs.declared.verdict.Verdict.{Verdict}
-use Rattle.frz_commands_verdict.specs.declared.verdict.Verdict.TheVariants.{MatesWithin, Wins, Draw, DoesNotLose, NotShown}
-use Rattle.frz_commands_verdict.specs.Answers.{FindsTables, IsVerdictAt, RefusesTable, answer_over, fault_line, found, own_line, refused}
+use Rattle.frz_commands_verdict.specs.Answers.{FindsTables, IsVerdictAt, answer_over, fault_line, found, own_line, refused}
 use Rattle.frz_commands_verdict.specs.Finding.{names_over}
 use Rattle.frz_commands_verdict.specs.Texts.{beliefs_text, lines_text, verdict_line, verdict_text}
 use Rattle.frz_commands_verdict.specs.Verdicts.{verdict_at}

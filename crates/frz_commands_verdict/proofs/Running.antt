@@ -1,24 +1,24 @@
 -- How `verdict` ends, by what was found of the tables.
-use Rattle.std.proofs.Common.{◌≡◌, ◌+◌, ◌<◌, ◌≤◌, ◌++◌, ◌∷◌, ◌∙◌, ◌==◌, [], ℕ, List, All, Bool, true, false, ap, arith, length, map, refl, subst, sym, Option, Some, None, Err, Ok}
-use Rattle.std.proofs.lemmas.List.{length-append, length-map}
+use Rattle.std.proofs.Common.{◌≡◌, ◌≤◌, ◌++◌, ◌∷◌, [], ℕ, List, Bool, true, false, arith, length, map, refl, subst, sym, Option, Some, None, Err, Ok}
+use Rattle.std.proofs.lemmas.List.{length-append}
 use Rattle.frz_board.specs.Boards.{Board}
 use Rattle.frz_game.specs.Numbers.{is_member}
 use Rattle.frz_store.specs.Files.{Files}
 use Rattle.frz_store.specs.Told.{StoreTold, SourceTold, SinkTold, StoreQuiet}
 use Rattle.frz_answer.specs.declared.end.End.{End}
 use Rattle.frz_answer.specs.declared.status.Status.TheVariants.{Success}
-use Rattle.frz_answer.specs.Answers.{Answer, says}
+use Rattle.frz_answer.specs.Answers.{says}
 use Rattle.frz_answer.specs.Ends.{Ran, Said}
 use Rattle.frz_answer.specs.Jobs.{Job, WithinCosts}
 use Rattle.frz_answer.specs.Statuses.{OneOf}
-use Rattle.frz_answer.specs.World.{World, world, Agrees, Fine, Quiet, spent}
+use Rattle.frz_answer.specs.World.{World, world, Agrees, Quiet, spent}
 use Rattle.frz_answer.proofs.Lemmas.{Begun, Found, fine_store, quiet_both, said}
 use Rattle.frz_prelude.specs.Refusals.{refusal_line, status_of}
 use Rattle.frz_prelude.specs.declared.refused.Refused.TheVariants as refusals
 use Rattle.frz_prelude.proofs.Lemmas.{found_where, table_own}
 use Rattle.frz_atlas.specs.Behind.{IsRefusedAt, TableBytes, link_of}
 use Rattle.frz_atlas.specs.Causes.{HasAtlasCause}
-use Rattle.frz_atlas.specs.Held.{MayHoldAll, all_held}
+use Rattle.frz_atlas.specs.Held.{all_held}
 use Rattle.frz_atlas.specs.Opening.{IsOneRefused}
 use Rattle.frz_atlas.specs.declared.fault.AtlasFault.{AtlasFault}
 use Rattle.frz_atlas.specs.declared.fault.AtlasFault.TheVariants.{Rules, Table, Back, Failed, NoMemory}
@@ -26,13 +26,12 @@ use Rattle.frz_atlas.specs.declared.fault.BackFault.{BackFault}
 use Rattle.frz_atlas.specs.declared.fault.BackFault.TheVariants.{Refused, Wrong}
 use Rattle.frz_atlas_prelude.specs.BackLines.{back_status}
 use Rattle.frz_atlas_prelude.specs.Names.{has_twice}
-use Rattle.frz_atlas_prelude.specs.Tables.{AreTablesIn}
-use Rattle.frz_atlas_prelude.proofs.Lemmas.{AnswersAt, MayEndAt, as_many_as_names, ended_at, judged_exact, place_below}
+use Rattle.frz_atlas_prelude.proofs.Lemmas.{as_many_as_names, ended_at, judged_exact, place_below}
 use Rattle.frz_commands_premises.specs.declared.line.Line.{Line}
 use Rattle.frz_commands_premises.specs.PremiseLines.{behind_lines, text_link_of, links_in}
 use Rattle.frz_commands_verdict.specs.declared.finding.Told.{Told}
 use Rattle.frz_commands_verdict.specs.declared.verdict.Verdict.{Verdict}
-use Rattle.frz_commands_verdict.specs.Answers.{answer_over, fault_line, found, refused, verdict_costs}
+use Rattle.frz_commands_verdict.specs.Answers.{answer_over, found, refused, verdict_costs}
 use Rattle.frz_commands_verdict.specs.Ending.{EndsVerdict, IsPlaceUpTo}
 use Rattle.frz_commands_verdict.specs.Finding.{FindsVerdict, RefusesOne, WithinFinding, names_over}
 use Rattle.frz_commands_verdict.specs.Texts.{verdict_text}

@@ -1,6 +1,6 @@
 -- The verdict is true in chess where the exits are true.
 use Rattle.std.proofs.Common.{[], ◌∷◌, ◌++◌, ◌≡◌, ◌+◌, ◌*◌, ◌-◌, ◌/◌, ◌∙◌, ℕ, List, Bool, true, false, ap, arith, refl, subst, sym, if◌then◌else◌}
-use Rattle.std.specs.Prelude.{◌==◌, slice_index}
+use Rattle.std.specs.Prelude.{◌==◌}
 use Rattle.std.proofs.lemmas.Bool.{eqb-true}
 use Rattle.frz_board.specs.declared.man.Colour.{Colour}
 use Rattle.frz_board.specs.declared.man.Colour.TheVariants.{White, Black}
@@ -24,7 +24,7 @@ use Rattle.frz_backs.specs.Counts.{counts_side, lines_count}
 use Rattle.frz_backs.proofs.Lemmas.{counted_before, counted_lines, counted_side, lines_numbered, over_numbered}
 use Rattle.frz_backs.specs.FileOn.{IsExactBack}
 use Rattle.frz_backs.specs.Links.{Link, backs_of, value_over}
-use Rattle.frz_commands_verdict.specs.declared.verdict.Verdict.TheVariants.{MatesWithin, Wins, Draw, DoesNotLose, NotShown}
+use Rattle.frz_commands_verdict.specs.declared.verdict.Verdict.TheVariants.{Draw, DoesNotLose, NotShown}
 use Rattle.frz_commands_verdict.specs.VerdictMeans.{IsTrueVerdict}
 use Rattle.frz_commands_verdict.specs.Verdicts.{code_at, counts_over, counts_through, held, verdict_at, won}
 

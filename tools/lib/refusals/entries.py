@@ -218,9 +218,8 @@ MOST_PLIES = 100
 
 
 def cuts():
-    """A line of `freezer` from a hold is cut after 100 plies, one of `atlas` ends where a position comes again, and
-    a session does not."""
-    says = "commands.md, line and play: a line from a hold ends with `cut` after 100 plies, or `repeated`"
+    """A line from a hold is cut after 100 plies, and a session is not."""
+    says = "commands.md, line and play: a line from a hold ends with `cut` after 100 plies"
     fen = "7k/8/8/R7/8/8/6R1/K7 w - - 0 1"
     white = ["a1b1", "b1a1"] * 100
     black = ["h8h7", *["h7h6", "h6h7"] * 100]
@@ -228,8 +227,6 @@ def cuts():
     line = "white holds\n" + "".join(f"{move}\n" for move in moves[:MOST_PLIES]) + "cut\n"
     plain, over = (table(SHUT_IN, [1] * 12, [5] * 6 + [7] * 6, magic) for magic in (MAGIC, LEANING))
     yield Case("freezer", ("line", "t", fen, "white"), {"t": plain}, 0, line, says)
-    # With both kings on b1 and h7 after two plies, and after six.
-    line = "white holds\na1b1\nh8h7\nb1a1\nh7h6\na1b1\nh6h7\nrepeated\n"
     yield Case("atlas", ("line", "t", fen, "white", "N.t"), {"t": over, "N.t": N_FILE}, 0, line, says)
     yield Case("atlas", ("line", "t", fen, "white"), {"t": plain}, 0, line, says)
     for count in (49, 50, 51, 150):

@@ -1,4 +1,4 @@
-use Rattle.std.proofs.Common.{refl, sym, ap, ℕ, List, Result, arith}
+use Rattle.std.proofs.Common.{refl, sym, ap, ℕ, List, Result, arith, Option}
 use Rattle.std.proofs.lemmas.Result.{err_from_is_err_and}
 use Rattle.frz_fen.specs.Reading.{fen_of}
 use Rattle.frz_table.specs.declared.kind.FileKind.{FileKind}

@@ -1,4 +1,3 @@
-use Rattle.std.proofs.Common.{◌∙◌, ap}
 use Rattle.frz_answer.proofs.Lemmas.{failed_first, gave_up, wrote_next}
 use Rattle.frz_commands_verdict.proofs.Lines.{first_belief}
 use Rattle.frz_commands_verdict.proofs.texts.+write_beliefs.Goals as goal
