@@ -1,0 +1,3 @@
+-- Moves on boards without kings, at all pairs of kings' squares.
+pub mod Ways
+pub mod Moves
