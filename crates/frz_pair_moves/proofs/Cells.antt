@@ -39,7 +39,7 @@ written_past true xs a b k l s t v e sa sb ta tb ea eb =
     ap (λ ys. slice_set ys e 0) (moved_past xs a b k l s t v sa sb ta tb)
     ∙ past (slice_set (slice_set xs s 0) t v) a b k l e 0 (ea refl) (eb refl)
 
-unwritten : (xs : List ℕ) (a : ℕ) → slice_index xs a ≡ 0 → slice_set xs a 0 ≡ xs
+pub unwritten : (xs : List ℕ) (a : ℕ) → slice_index xs a ≡ 0 → slice_set xs a 0 ≡ xs
 unwritten xs a none = ap (slice_set xs a) (sym none) ∙ set-get_or xs a 0
 
 -- White's king leaves a for s
@@ -83,3 +83,15 @@ after_at p man m s size lf lt =
     written p.cells m.from m.to (cell_of_man (arrives man m.promo)) (beside_on_file m.from m.to) s
     (is_pawn man.kind && takes_in_passing p man.colour m.from m.to) (omega arith) (omega arith)
     (omega arith)
+
+-- a step keeps the number of cells
+pub length_after : (p : Board) (man : Man) (m : Step) → length (cells_after p man m) ≡ length p.cells
+length_after p man m =
+    kept (is_pawn man.kind && takes_in_passing p man.colour m.from m.to) p.cells m.from m.to
+    (cell_of_man (arrives man m.promo)) (beside_on_file m.from m.to)
+  where
+    kept : (t : Bool) (xs : List ℕ) (a b v e : ℕ) →
+        length (cond t (slice_set (slice_set (slice_set xs a 0) b v) e 0)
+        (slice_set (slice_set xs a 0) b v)) ≡ length xs
+    kept false xs a b v e = simp length-set
+    kept true xs a b v e = simp length-set

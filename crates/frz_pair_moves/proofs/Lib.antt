@@ -4,4 +4,7 @@ mod Cells
 mod Between
 mod MenGo
 mod MenMoved
+mod MenSafe
+mod Pairs
 mod KingsGo
+mod KingPairs

@@ -26,10 +26,10 @@ use Rattle.frz_pair_moves.proofs.Cells.{after_at, written_past}
 use Rattle.frz_pair_moves.proofs.MenGo.{Clear, advances_same, can_same, clear_leaves, leaves_clear, legal_clear, not_black, not_white}
 
 -- a man of the side to move that can go
-record Going (p : Board) (m : Step) : Type 0 where
-  man : Man
-  on : man_on p m.from ≡ Some man
-  own : man.colour ≡ p.turn
+pub record Going (p : Board) (m : Step) : Type 0 where
+  pub man : Man
+  pub on : man_on p m.from ≡ Some man
+  pub own : man.colour ≡ p.turn
 
 going_of : (p : Board) (m : Step) (o : Option Man) → man_on p m.from ≡ o →
     is_man_of p.turn o ≡ true → Going p m
@@ -40,10 +40,10 @@ going_of p m (Some man) e h = record {
   own = same_side man.colour p.turn h;
 }
 
-going : (p : Board) (m : Step) → holds p p.turn m.from ≡ true → Going p m
+pub going : (p : Board) (m : Step) → holds p p.turn m.from ≡ true → Going p m
 going p m h = going_of p m (man_on p m.from) refl h
 
-goes_from : (p : Board) (m : Step) → can_go p m ≡ true → holds p p.turn m.from ≡ true
+pub goes_from : (p : Board) (m : Step) → can_go p m ≡ true → holds p p.turn m.from ≡ true
 goes_from p m h =
     (and_parts (holds p p.turn m.from) (not (holds p p.turn m.to))
     (and_parts (holds p p.turn m.from && not (holds p p.turn m.to))
@@ -183,7 +183,7 @@ size_of p a b v =
 
 module _ (p : Board) (m : Step) (a b : ℕ) (step : IsStep m) (la : a < 64) (lb : b < 64)
     (made : Makes p a b) where
-  long : length p.cells ≡ 64
+  pub long : length p.cells ≡ 64
   long = size_of p a b made.valid
 
   -- what a step from a man's square, with the kings off its way, leads to
@@ -200,7 +200,7 @@ module _ (p : Board) (m : Step) (a b : ℕ) (step : IsStep m) (la : a < 64) (lb 
     there : man_on (with_kings p a b) m.from ≡ Some g.man
     there = ap man_of_cell ((crowned p a b White long la lb made.free).rest m.from fa fb) ∙ g.on
 
-    alike : after (with_kings p a b) m ≡ with_kings (after p m) a b
+    pub alike : after (with_kings p a b) m ≡ with_kings (after p m) a b
     alike =
         ap (λ o. after_man (with_kings p a b) o m) there
         ∙ man_after p a b long la lb made.free m g.man step.from step.to made.valid g.own fa fb x
@@ -209,12 +209,12 @@ module _ (p : Board) (m : Step) (a b : ℕ) (step : IsStep m) (la : a < 64) (lb 
     turned : (after (with_kings p a b) m).turn ≡ other_of p.turn
     turned = ap (λ o. (after_man (with_kings p a b) o m).turn) there
 
-    still_free : are_free (after p m) a b ≡ true
+    pub still_free : are_free (after p m) a b ≡ true
     still_free =
         ap (λ o. are_free (after_man p o m) a b) g.on
         ∙ free_after p a b long la lb made.free m g.man step.from step.to made.valid g.own fa fb x
 
-    same_can : can_go (with_kings p a b) m ≡ can_go p m
+    pub same_can : can_go (with_kings p a b) m ≡ can_go p m
     same_can =
         can_same p a b long la lb made.free m fa fb x.to_white x.to_black x.past_white x.past_black
 

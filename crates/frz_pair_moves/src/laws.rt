@@ -1,17 +1,20 @@
 //! What holds of moves with kings put on a board, whatever the code.
 
-ghost use Rattle.std.specs.Prelude.{ℕ, ◌≡◌, ◌≢◌, ◌<◌, ◌↔◌, true};
+ghost use Rattle.std.specs.Prelude.{ℕ, ◌≡◌, ◌≢◌, ◌<◌, ◌↔◌, true, not};
+ghost use Rattle.frz_board.specs.Attacks.{is_attacked};
+ghost use Rattle.frz_board.specs.Men.{other_of};
 ghost use Rattle.frz_board.specs.Boards.{Board, holds};
 ghost use Rattle.frz_board.specs.declared.man.Colour.TheVariants.{White, Black};
 ghost use Rattle.frz_board.specs.Moving.{Step, IsStep};
 ghost use Rattle.frz_fide.specs.Legal.{after as board_after, can_go, is_legal};
-ghost use Rattle.frz_king_planes.specs.Kings.{with_kings};
+ghost use Rattle.frz_king_planes.specs.Kings.{king_square, with_kings};
 ghost use Rattle.frz_pair_moves.specs.Moves.{IsKingMove, Makes, entered};
 ghost use Rattle.frz_pair_moves.specs.Ways.{leave_way};
 
 /// The moves of men that are no kings. A step of such a man is legal exactly where the man can go on
 /// the board without kings, neither king stands on its way, and the kings make a valid position of
-/// the board after it. That is the position after the move.
+/// the board after it. That is the position after the move. If the step can go and the way is left, it
+/// is legal exactly where the mover's king is not attacked afterwards.
 pub fn moves_of_men()
     ensures legal { (p : Board) (m : Step) (a b : ℕ) → IsStep m → a < 64 → b < 64 →
         Makes p a b → holds p p.turn m.from ≡ true →
@@ -20,6 +23,11 @@ pub fn moves_of_men()
     ensures after { (p : Board) (m : Step) (a b : ℕ) → IsStep m → a < 64 → b < 64 →
         Makes p a b → can_go p m ≡ true → leave_way m a b ≡ true →
         board_after (with_kings p a b) m ≡ with_kings (board_after p m) a b }
+    ensures safe { (p : Board) (m : Step) (a b : ℕ) → IsStep m → a < 64 → b < 64 →
+        Makes p a b → can_go p m ≡ true → leave_way m a b ≡ true →
+        is_legal (with_kings p a b) m
+        ≡ not (is_attacked (with_kings (board_after p m) a b) (king_square p.turn a b)
+            (other_of p.turn)) }
 {}
 
 /// The moves of White's king, with Black's king on `b`. A step is legal exactly where it is a

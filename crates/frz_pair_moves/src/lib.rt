@@ -1,7 +1,11 @@
 //! Moves on boards without kings, at all pairs of kings' squares at once.
 #![tactic(auto)]
 
+mod kings;
 pub mod laws;
+mod men;
 mod way;
 
+pub use kings::{arriving_pairs, stepping_pairs};
+pub use men::{legal_pairs, safe_pairs};
 pub use way::way_of;
