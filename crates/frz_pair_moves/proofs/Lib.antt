@@ -8,3 +8,5 @@ mod MenSafe
 mod Pairs
 mod KingsGo
 mod KingPairs
+mod Movers
+mod Numbers

@@ -2,3 +2,4 @@
 pub mod Ways
 pub mod Moves
 pub mod Kings
+pub mod Steps

@@ -1,13 +1,15 @@
 //! What holds of moves with kings put on a board, whatever the code.
 
-ghost use Rattle.std.specs.Prelude.{ℕ, ◌≡◌, ◌≢◌, ◌<◌, ◌↔◌, true, not};
+ghost use Rattle.std.specs.Prelude.{ℕ, ◌≡◌, ◌≢◌, ◌<◌, ◌↔◌, true, not, ◌⊎◌};
 ghost use Rattle.frz_board.specs.Attacks.{is_attacked};
 ghost use Rattle.frz_board.specs.Men.{other_of};
-ghost use Rattle.frz_board.specs.Boards.{Board, holds};
+ghost use Rattle.frz_board.specs.Boards.{Board, holds, is_empty};
 ghost use Rattle.frz_board.specs.declared.man.Colour.TheVariants.{White, Black};
 ghost use Rattle.frz_board.specs.Moving.{Step, IsStep};
 ghost use Rattle.frz_fide.specs.Legal.{after as board_after, can_go, is_legal};
 ghost use Rattle.frz_king_planes.specs.Kings.{king_square, with_kings};
+ghost use Rattle.frz_pair_moves.specs.Kings.{handed};
+ghost use Rattle.frz_pair_moves.specs.Steps.{step_at, step_number};
 ghost use Rattle.frz_pair_moves.specs.Moves.{IsKingMove, Makes, entered};
 ghost use Rattle.frz_pair_moves.specs.Ways.{leave_way};
 
@@ -52,4 +54,22 @@ pub fn moves_of_black_king()
     ensures after { (p : Board) (m : Step) (a : ℕ) → IsStep m → a < 64 → p.turn ≡ Black →
         Makes p a m.from → IsKingMove p m → m.to ≢ a →
         board_after (with_kings p a m.from) m ≡ with_kings (entered p m.to) a m.to }
+{}
+
+/// A legal move is one of the king of the side to move, or of a man on the board without kings.
+pub fn movers()
+    ensures { (p : Board) (m : Step) (a b : ℕ) → IsStep m → a < 64 → b < 64 → Makes p a b →
+        is_legal (with_kings p a b) m ≡ true →
+        (m.from ≡ king_square p.turn a b) ⊎ (holds p p.turn m.from ≡ true) }
+{}
+
+/// Each step has a number, below 20480.
+pub fn step_numbers()
+    ensures { (m : Step) → IsStep m →
+        (step_number m < 20480) × (step_at (step_number m) ≡ m) }
+{}
+
+/// A king that goes to an empty square leaves the same men, with the other side to move.
+pub fn quiet_king()
+    ensures { (p : Board) (s : ℕ) → is_empty p s ≡ true → entered p s ≡ handed p }
 {}

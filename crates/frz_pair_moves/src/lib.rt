@@ -4,8 +4,10 @@
 mod kings;
 pub mod laws;
 mod men;
+mod steps;
 mod way;
 
 pub use kings::{arriving_pairs, stepping_pairs};
 pub use men::{legal_pairs, safe_pairs};
+pub use steps::{can_go, next_step, step_at};
 pub use way::way_of;
