@@ -1,14 +1,14 @@
 -- Who makes a legal move.
-use Rattle.std.proofs.Common.{◌≡◌, ◌≢◌, ℕ, ◌<◌, true, false, ◌&&◌, not, ◌⊎◌, ap, sym, ◌∙◌, refl, inl, inr}
-use Rattle.std.proofs.lemmas.Bool.{and_parts, both_ways, cases_eq}
+use Rattle.std.proofs.Common.{◌≡◌, ℕ, ◌<◌, true, false, ◌⊎◌, ap, sym, ◌∙◌, refl, inl, inr}
+use Rattle.std.proofs.lemmas.Bool.{both_ways, cases_eq}
 use Rattle.frz_board.specs.declared.man.Colour.{Colour}
 use Rattle.frz_board.specs.declared.man.Colour.TheVariants.{White, Black}
-use Rattle.frz_board.specs.Boards.{Board, holds, man_on}
+use Rattle.frz_board.specs.Boards.{Board, holds}
 use Rattle.frz_board.specs.Men.{is_man_of, man_of_cell, other_of}
 use Rattle.frz_board.specs.Moving.{Step}
-use Rattle.frz_fide.specs.Legal.{can_go, is_legal, man_goes}
+use Rattle.frz_fide.specs.Legal.{is_legal}
 use Rattle.frz_king_planes.specs.Kings.{king_cell, king_square, with_kings}
-use Rattle.frz_king_planes.proofs.Lemmas.{Crowned, crowned}
+use Rattle.frz_king_planes.proofs.Lemmas.{crowned}
 use Rattle.frz_pair_moves.specs.Moves.{Makes}
 use Rattle.frz_pair_moves.proofs.MenMoved.{goes_from, legal_goes, size_of}
 

@@ -2,25 +2,35 @@
 
 ghost use Rattle.std.specs.Prelude.{ℕ, ◌≡◌, ◌<◌, ◌≤◌, ◌+◌, MatchOption, true, false};
 ghost use Rattle.frz_board.specs.Moving.{is_promotion};
-ghost use Rattle.frz_fide.specs.Legal.{can_go as board_can_go, goes, promotes};
+ghost use Rattle.frz_fide.specs.Legal.{advances as advances_two, can_go as board_can_go, goes, promotes, takes_in_passing as passes};
 ghost use Rattle.frz_pair_moves.specs.Steps.{HasNoStepFrom, IsNextStep, promotion_at as promotion_of, step_at as step_of};
 
 use frz_bits::Bitboards;
 use frz_board::{Colour, Kind, Man, Move, Square};
 
-/// Has a pawn of the side a way from `a` to `b`? It takes a man, steps ahead, advances two squares,
-/// or takes en passant.
+/// Does a pawn of the side take en passant if it goes from `a` to `b`?
+pub(crate) fn takes_in_passing(p: &Bitboards, c: Colour, a: Square, b: Square) -> bool
+    ensures { result ≡ passes p.now c a b }
+{
+    a.is_pawn_attack(c, b) && p.as_position().is_target(b)
+}
+
+/// May a pawn of the side advance two squares from `a` to `b`?
+pub(crate) fn advances(p: &Bitboards, c: Colour, a: Square, b: Square) -> bool
+    ensures { result ≡ advances_two p.now c a b }
+{
+    let over = Square::at((a.number() + b.number()) / 2);
+    (a.is_home_rank(c) && (a.files_apart(b) == 0 && a.is_forward(c, 2, b)))
+        && (p.is_empty(b) && p.is_empty(over))
+}
+
+/// Has a pawn of the side a way from `a` to `b`?
 fn pawn_goes(p: &Bitboards, c: Colour, a: Square, b: Square) -> bool
     ensures { result ≡ goes p.now c Kind.Pawn a b }
 {
-    let aside = a.is_pawn_attack(c, b);
-    let straight = a.files_apart(b) == 0;
-    let takes = aside && p.holds(c.other(), b);
-    let steps = (straight && a.is_forward(c, 1, b)) && p.is_empty(b);
-    let over = Square::at((a.number() + b.number()) / 2);
-    let advances = (a.is_home_rank(c) && (straight && a.is_forward(c, 2, b)))
-        && (p.is_empty(b) && p.is_empty(over));
-    (takes || steps) || (advances || (aside && p.as_position().is_target(b)))
+    let captures = a.is_pawn_attack(c, b) && p.holds(c.other(), b);
+    let steps = (a.files_apart(b) == 0 && a.is_forward(c, 1, b)) && p.is_empty(b);
+    (captures || steps) || (advances(p, c, a, b) || takes_in_passing(p, c, a, b))
 }
 
 /// Has the man a way from `a` to `b`?
