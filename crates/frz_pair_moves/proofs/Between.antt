@@ -130,6 +130,7 @@ passed_between c a b h =
   where
     apart_by : (a b : ℕ) → a ≡ b → ranks_apart a b ≡ 1 → ⊥
     apart_by a b e r = omega arith
+
     apart_two : (a b : ℕ) → a ≡ b → ranks_apart a b ≡ 2 → ⊥
     apart_two a b e r = omega arith
 

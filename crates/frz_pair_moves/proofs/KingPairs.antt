@@ -59,29 +59,29 @@ record Entry (p : Board) (c : Colour) (a b s : ℕ) : Type 0 where
 
 module _ (p : Board) (a b s : ℕ) (la : a < 64) (lb : b < 64) (ls : s < 64) (made : Makes p a b)
   where
-  abbrev goes : Colour → Step
-  goes c = record { from = king_square c a b; to = s; promo = None }
+    abbrev goes : Colour → Step
+    goes c = record { from = king_square c a b; to = s; promo = None }
 
-  step_from : (x : ℕ) → x < 64 → IsStep (record { from = x; to = s; promo = None })
-  step_from x lx = record { from = lx; to = ls; promo = refl; }
+    step_from : (x : ℕ) → x < 64 → IsStep (record { from = x; to = s; promo = None })
+    step_from x lx = record { from = lx; to = ls; promo = refl }
 
-  entry : (c : Colour) → p.turn ≡ c → is_legal (with_kings p a b) (goes c) ≡ true →
-      Entry p c a b s
-  entry White e h =
-      let r = white_legal p (goes White) b (step_from a la) lb e made h in
-      record { step = r.0.step; free = r.0.free; made = r.1; }
-  entry Black e h =
-      let r = black_legal p (goes Black) a (step_from b lb) la e made h in
-      record { step = r.0.step; free = r.0.free; made = r.1; }
+    entry : (c : Colour) → p.turn ≡ c → is_legal (with_kings p a b) (goes c) ≡ true →
+        Entry p c a b s
+    entry White e h =
+        let r = white_legal p (goes White) b (step_from a la) lb e made h in
+        record { step = r.0.step; free = r.0.free; made = r.1 }
+    entry Black e h =
+        let r = black_legal p (goes Black) a (step_from b lb) la e made h in
+        record { step = r.0.step; free = r.0.free; made = r.1 }
 
-  enters : (c : Colour) → p.turn ≡ c → Entry p c a b s →
-      is_legal (with_kings p a b) (goes c) ≡ true
-  enters White e r =
-      legal_white p (goes White) b (step_from a la) lb e made
-      (record { promo = refl; step = r.step; free = r.free; }) r.made
-  enters Black e r =
-      legal_black p (goes Black) a (step_from b lb) la e made
-      (record { promo = refl; step = r.step; free = r.free; }) r.made
+    enters : (c : Colour) → p.turn ≡ c → Entry p c a b s →
+        is_legal (with_kings p a b) (goes c) ≡ true
+    enters White e r =
+        legal_white p (goes White) b (step_from a la) lb e made
+        (record { promo = refl; step = r.step; free = r.free }) r.made
+    enters Black e r =
+        legal_black p (goes Black) a (step_from b lb) la e made
+        (record { promo = refl; step = r.step; free = r.free }) r.made
 
 module _ (p : Board) (before : List ℕ) (are : AreValid p before) where
   abbrev c : Colour
@@ -158,8 +158,7 @@ module _ (p : Board) (before : List ℕ) (are : AreValid p before) where
         (sym (cut a b la lb) ∙ h) in
         let made = made_by p before are a b la lb parts.1 in
         let onto = and_parts (is_king_step s (king_square c a b)) there
-        (sym around_at ∙ parts.0) in
-        (
+        (sym around_at ∙ parts.0) in (
           made,
           enters p a b s la lb ls made c refl (record {
             step = step_back (king_square c a b) s ∙ onto.0;

@@ -61,8 +61,7 @@ module _ (p q : Board) (m : Step) (t : ℕ) (lt : m.to < 64) (v : IsValid q)
       (ap (λ o. man_goes q o m) (sym there) ∙ parts.1) in
       let other : m.to ≢ t = λ e. both_ways (has q (other_of p.turn) King m.to)
       (no_king_there q m v lt (facts q m h) (other_of p.turn))
-      (ap (has q (other_of p.turn) King) e ∙ stands (other_of p.turn) t w.other) in
-      (
+      (ap (has q (other_of p.turn) King) e ∙ stands (other_of p.turn) t w.other) in (
         record {
           promo = none_of m.promo way.1;
           step = way.0;
@@ -129,8 +128,7 @@ module _ (p : Board) (m : Step) (b : ℕ) (step : IsStep m) (lb : b < 64) (white
   white_legal h =
       let g = goes_then p (with_kings p m.from b) m b step.to made.valid view refl h in
       let parts = free_parts p m.from b made.free in
-      let free = free_there p m.to b size step.to parts.black g.1 in
-      (
+      let free = free_there p m.to b size step.to parts.black g.1 in (
         g.0,
         record {
           free = are_both (entered p m.to) m.to b g.1 free.0 free.1;
@@ -175,8 +173,7 @@ module _ (p : Board) (m : Step) (a : ℕ) (step : IsStep m) (la : a < 64) (black
   black_legal h =
       let g = goes_then p (with_kings p a m.from) m a step.to made.valid view_black refl h in
       let parts = free_parts p a m.from made.free in
-      let free = free_there p m.to a size_black step.to parts.white g.1 in
-      (
+      let free = free_there p m.to a size_black step.to parts.white g.1 in (
         g.0,
         record {
           free = are_both (entered p m.to) a m.to (λ e. g.1 (sym e)) free.1 free.0;

@@ -222,8 +222,7 @@ module _ (p : Board) (m : Step) (a b : ℕ) (step : IsStep m) (la : a < 64) (lb 
       (can_go p m ≡ true) × (leave_way m a b ≡ true) × Makes (after p m) a b
   legal_man own h =
       let x = legal_clear p a b long la lb made.free m made.valid step.to
-      (facts (with_kings p a b) m h) in
-      (
+      (facts (with_kings p a b) m h) in (
         sym (same_can own x) ∙ legal_goes (with_kings p a b) m h,
         clear_leaves p a b long la lb made.free m x,
         record {

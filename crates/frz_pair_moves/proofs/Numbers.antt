@@ -48,11 +48,10 @@ numbered m step =
     let w = parts_of m.from m.to r n step.from step.to (five m.promo step.promo) refl in
     let F : ℕ → Step = λ x. record { from = x; to = (n / 5) % 64; promo = promotion_at (n % 5) } in
     let G : ℕ → Step = λ x. record { from = m.from; to = x; promo = promotion_at (n % 5) } in
-    let H : Option Kind → Step = λ k. record { from = m.from; to = m.to; promo = k } in
-    (
+    let H : Option Kind → Step = λ k. record { from = m.from; to = m.to; promo = k } in (
       w.below,
       ap F w.from ∙ ap G w.to
-      ∙ ap H (ap promotion_at w.rest ∙ same_promotion m.promo step.promo),
+          ∙ ap H (ap promotion_at w.rest ∙ same_promotion m.promo step.promo),
     )
 
 -- no step from a square goes where none of the mover's men stands there

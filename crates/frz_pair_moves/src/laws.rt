@@ -29,7 +29,7 @@ pub fn moves_of_men()
         Makes p a b → can_go p m ≡ true → leave_way m a b ≡ true →
         is_legal (with_kings p a b) m
         ≡ not (is_attacked (with_kings (board_after p m) a b) (king_square p.turn a b)
-            (other_of p.turn)) }
+        (other_of p.turn)) }
 {}
 
 /// The moves of White's king, with Black's king on `b`. A step is legal exactly where it is a

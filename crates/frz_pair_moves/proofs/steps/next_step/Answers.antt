@@ -22,8 +22,7 @@ loop-k-preserved c =
     let further = c.following-k.ensures.further in
     let from = c.loop-k.invariant.0 in
     let here : can_go p (step_at k) ≡ false = ap (can_go p) (sym c.step_at.ensures)
-    ∙ sym c.can_go.ensures ∙ c.if-can_go.false in
-    (
+    ∙ sym c.can_go.ensures ∙ c.if-can_go.false in (
       omega arith,
       c.following-k.ensures.below,
       more p c.args.n k c.following-k.result c.loop-k.invariant.2 here c.following-k.ensures.passed,
