@@ -6,6 +6,8 @@ mod kings;
 pub mod laws;
 mod men;
 mod steps;
+#[cfg(test)]
+mod tests;
 mod way;
 
 pub use aftermath::after;
