@@ -1,0 +1,9 @@
+use Rattle.frz_pair_moves.proofs.KingPairs.{arriving}
+use Rattle.frz_pair_moves.proofs.kings.arriving_pairs.Goals as goal
+
+pub returns : goal.returns
+returns c p turn free before after a b la lb =
+    arriving p c.args.before.now before c.args.turn c.args.s turn
+    c.pairs_around-pairs.ensures.on_board free c.args.after.now
+    c.pairs_around-pairs.result c.cut_with.new.self after c.pairs_around-pairs.ensures.pairs
+    c.cut_with.ensures a b la lb
