@@ -1,24 +1,17 @@
 -- Lines that are added one by one.
-use Rattle.std.proofs.Common.{Bool, true, ◌≡◌, ◌+◌, ◌<◌, ◌++◌, ◌∷◌, ◌∙◌, [], ℕ, zero, suc, List, ap, ap₂, arith, append_assoc, append-nil, get_or, length, refl, sym, take}
+use Rattle.std.proofs.Common.{Bool, ◌≡◌, ◌+◌, ◌<◌, ◌++◌, ◌∷◌, ◌∙◌, [], ℕ, zero, suc, List, ap, ap₂, arith, append_assoc, append-nil, get_or, length, refl, sym, take}
 use Rattle.std.specs.Prelude.{map}
 use Rattle.std.proofs.lemmas.List.{length-map, length-take-le, map-append, take_more}
-use Rattle.frz_board.specs.declared.man.Colour.{Colour}
 use Rattle.frz_board.specs.declared.man.Colour.TheVariants.{White, Black}
 use Rattle.frz_sets.specs.Views.{RuleLines}
-use Rattle.frz_backs.specs.Books.{Back as BackCodes}
-use Rattle.frz_backs.specs.FileOn.{loaded_back}
 use Rattle.frz_backs.specs.BackTable.{BackTable}
 use Rattle.frz_backs.specs.Links.{Link}
 use Rattle.frz_backs.specs.Loaded.{leans_as, link_loaded}
-use Rattle.frz_backs.specs.Values.{atlas_value}
-use Rattle.frz_backs.proofs.Lemmas.{loaded_backs}
-use Rattle.frz_premises.specs.declared.sides.ExitValues.{ExitValues}
 use Rattle.frz_premises.specs.declared.sides.Strength.{Strength}
-use Rattle.frz_premises.specs.Sides.{exits_tell, strength_of}
 use Rattle.frz_premises.specs.declared.basis.Basis.{Basis}
 use Rattle.frz_commands_premises.specs.declared.line.Line.{Line}
 use Rattle.frz_commands_premises.specs.declared.line.Line.TheVariants.{Back, Rules, Exit, Believed, Side}
-use Rattle.frz_commands_premises.specs.PremiseLines.{TextLink, basis_lines, behind_lines, belief_among, last_lines, lines_by, links_in, premise_lines, strength_over, text_link_loaded, text_lines}
+use Rattle.frz_commands_premises.specs.PremiseLines.{TextLink, basis_lines, behind_lines, belief_among, last_lines, leans_over, lines_by, links_in, premise_lines, strength_over, text_link_loaded, text_lines}
 use Rattle.frz_commands_premises.proofs.ExactTables.{links_loaded}
 
 -- one exit line more
@@ -105,17 +98,6 @@ behind_more backs place back old lines pushed new leans text rules within is so_
     ∙ append_assoc old front (Back place ∷ own)
     ∙ ap (λ (l : List Line). old ++ l) (sym (back_more backs place back within is))
 
--- what the bounds of a side are, by the book that was used
-pub strength_told : (rules used : RuleLines) (backs asked : List BackTable) (believed : ℕ)
-    (values : ExitValues) (side : Colour) → used ≡ rules → asked ≡ backs →
-    values ≡ exits_tell rules (λ q. atlas_value used (map loaded_back asked) q) →
-    strength_of rules believed values side
-    ≡ strength_over rules (map link_loaded backs) believed side
-strength_told rules used backs asked believed values side same_rules same_backs e =
-    ap (λ (v : ExitValues). strength_of rules believed v side)
-    (e ∙ ap₂ (λ (r : RuleLines) (bs : List BackCodes). exits_tell rules (λ q. atlas_value r bs q))
-    same_rules (ap (map loaded_back) same_backs ∙ sym (loaded_backs backs)))
-
 -- the lines of both sides
 pub sides_more : (old first last : List Line) (white black w b : Strength) →
     first ≡ old ++ Side White white ∷ [] → last ≡ first ++ Side Black black ∷ [] → white ≡ w →
@@ -135,14 +117,15 @@ module _ (text : List ℕ) (rules : RuleLines) (backs : List BackTable) (believe
   links = map link_loaded backs
 
   abbrev own : List Line
-  own = text_lines true text rules links
+  own = text_lines (leans_over links) text rules links
 
   texts_are : behind ≡ behind_lines [] tables → named ≡ behind ++ Rules ∷ [] →
       texts ≡ named ++ own → texts ≡ basis_lines text rules tables
   texts_are first rule more =
       more ∙ ap (λ (l : List Line). l ++ own) (rule ∙ ap (λ (l : List Line). l ++ Rules ∷ []) first)
       ∙ append_assoc (behind_lines [] tables) (Rules ∷ []) own
-      ∙ ap (λ (ls : List Link). behind_lines [] tables ++ Rules ∷ text_lines true text rules ls)
+      ∙ ap (λ (ls : List Link). behind_lines [] tables
+      ++ Rules ∷ text_lines (leans_over ls) text rules ls)
       (sym (links_loaded backs))
 
   pub all_told : behind ≡ behind_lines [] tables → named ≡ behind ++ Rules ∷ [] →

@@ -1,5 +1,5 @@
 -- How many of the lines tell of belief: as many as exit lines are believed.
-use Rattle.std.proofs.Common.{Bool, true, ◌≡◌, ◌+◌, ◌++◌, ◌∷◌, ◌∙◌, [], ℕ, List, All, ap, ap₂, arith, cond, length, refl, sym, zero-add}
+use Rattle.std.proofs.Common.{Bool, ◌≡◌, ◌+◌, ◌++◌, ◌∷◌, ◌∙◌, [], ℕ, List, All, ap, ap₂, arith, cond, length, refl, sym, zero-add}
 use Rattle.std.specs.Prelude.{Ok, count_by}
 use Rattle.std.proofs.lemmas.List.Elements.{All-head, All-tail}
 use Rattle.std.proofs.lemmas.List.Sums.{sum_by-append, sum_by-cons}
@@ -14,7 +14,7 @@ use Rattle.frz_premises.specs.Believing.{believed_in, believed_over}
 use Rattle.frz_premises.proofs.Lemmas.{many_bases}
 use Rattle.frz_commands_premises.specs.declared.line.Line.{Line}
 use Rattle.frz_commands_premises.specs.declared.line.Line.TheVariants.{Back, Rules, Exit}
-use Rattle.frz_commands_premises.specs.PremiseLines.{TextLink, basis_lines, behind_lines, belief_among, lines_by, links_in, tells_belief, text_lines}
+use Rattle.frz_commands_premises.specs.PremiseLines.{TextLink, basis_lines, behind_lines, belief_among, leans_over, lines_by, links_in, tells_belief, text_lines}
 
 -- the text gives the rules of the table
 abbrev pub IsReadAs : TextLink → Type 0
@@ -65,19 +65,22 @@ count_behind before (t ∷ tables) read =
 pub belief_counted : (text : List ℕ) (rules : RuleLines) (tables : List TextLink) →
     rules_of text ≡ Ok rules → All IsReadAs tables →
     belief_among (basis_lines text rules tables)
-    ≡ believed_in (links_in tables) + believed_of true rules (links_in tables)
+    ≡ believed_in (links_in tables)
+    + believed_of (leans_over (links_in tables)) rules (links_in tables)
 belief_counted text rules tables read all =
-    let lines = text_lines true text rules (links_in tables) in
+    let leans = leans_over (links_in tables) in
+    let lines = text_lines leans text rules (links_in tables) in
     count_both (behind_lines [] tables) (Rules ∷ lines)
     ∙ ap₂ (λ (m n : ℕ). m + n) (count_behind [] tables all)
     (count_first Rules lines ∙ zero-add (belief_among lines)
-    ∙ count_text true text rules (links_in tables) read)
+    ∙ count_text leans text rules (links_in tables) read)
 
 -- where none is believed, none is of the tables and none of the rules
 pub none_counted : (text : List ℕ) (rules : RuleLines) (tables : List TextLink) →
     rules_of text ≡ Ok rules → All IsReadAs tables →
     belief_among (basis_lines text rules tables) ≡ 0 →
-    (believed_in (links_in tables) ≡ 0) × (believed_of true rules (links_in tables) ≡ 0)
+    (believed_in (links_in tables) ≡ 0)
+    × (believed_of (leans_over (links_in tables)) rules (links_in tables) ≡ 0)
 none_counted text rules tables read all none =
     let sum = belief_counted text rules tables read all in
     (omega (arith, none, sum), omega (arith, none, sum))

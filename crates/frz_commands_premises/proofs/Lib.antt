@@ -1,5 +1,6 @@
 pub mod Lemmas
 mod Adding
+mod BuiltValues
 mod Sizes
 mod Telling
 mod Writable

@@ -1,5 +1,5 @@
 -- What the answers of `premises` mean.
-use Rattle.std.proofs.Common.{Bool, true, ◌≡◌, ◌++◌, ◌∷◌, [], ℕ, List, All, ap, append_assoc, refl, subst, sym}
+use Rattle.std.proofs.Common.{Bool, ◌≡◌, ◌++◌, ◌∷◌, [], ℕ, List, All, ap, append_assoc, refl, subst, sym}
 use Rattle.std.specs.Prelude.{Ok, map}
 use Rattle.std.proofs.lemmas.List.Elements.{All-head, All-tail}
 use Rattle.frz_exits.specs.Books.{value_by}
@@ -8,8 +8,7 @@ use Rattle.frz_rules.specs.Text.{rules_of}
 use Rattle.frz_sets.specs.Views.{RuleLines}
 use Rattle.frz_store.specs.Bytes.{HoldsBytes}
 use Rattle.frz_store.specs.Files.{Files}
-use Rattle.frz_backs.specs.Links.{AreExact, Link, backs_of}
-use Rattle.frz_backs.specs.Values.{atlas_value}
+use Rattle.frz_backs.specs.Links.{AreExact, Link}
 use Rattle.frz_atlas.specs.Behind.{AreJudged}
 use Rattle.frz_atlas.specs.declared.fault.BackFault.{BackFault}
 use Rattle.frz_atlas.specs.declared.fault.BackFault.TheVariants.{Refused, Wrong}
@@ -25,7 +24,7 @@ use Rattle.frz_exit_lines.proofs.Lemmas.{as_many_lines, said_there}
 use Rattle.frz_atlas_prelude.specs.BackLines.{back_status}
 use Rattle.frz_atlas_prelude.specs.RulesRefusals.{Refuses, of_back, of_rules}
 use Rattle.frz_atlas_prelude.proofs.Lemmas.{judged_over}
-use Rattle.frz_commands_premises.specs.PremiseLines.{TextLink, basis_lines, belief_among, links_in, text_link_of}
+use Rattle.frz_commands_premises.specs.PremiseLines.{TextLink, basis_lines, belief_among, built_value, leans_over, links_in, text_link_of}
 use Rattle.frz_commands_premises.specs.Premises.{FindsPremises, IsToldAt, found, no_back, no_rules}
 use Rattle.frz_commands_premises.specs.PremisesMean.{AllLinesMean, LinesMean, MeansPremises, MeansStatus, TellsPremises}
 use Rattle.frz_commands_premises.proofs.BeliefCounted.{IsReadAs, none_counted}
@@ -77,13 +76,13 @@ module _ (rules : List ℕ) (behind : List (List ℕ)) (files : Files) (are : Ho
     links_exact = subst (λ (l : List Link). AreExact l) (sym (links_are h.tables))
         (judged_exact h.tables all_judged)
 
-    true_exits : believed ≡ 0 → AreTrueExits h.lines (atlas_value h.lines (backs_of links))
+    true_exits : believed ≡ 0 → AreTrueExits h.lines (built_value h.lines links)
     true_exits none =
         let parts = none_counted h.text h.lines texts h.accepted (all_read h.tables all_judged)
         none in
-        true_over true h.lines links links_exact
+        true_over (leans_over links) h.lines links links_exact
         (all_true links links_exact (none_hold links parts.0))
-        (none_holds true h.lines links parts.1)
+        (none_holds (leans_over links) h.lines links parts.1)
 
     answer_tells_premises : TellsPremises rules behind files a.text
     answer_tells_premises = record {
@@ -101,7 +100,7 @@ module _ (rules : List ℕ) (behind : List (List ℕ)) (files : Files) (are : Ho
       links_are = refl;
       behind_exact = links_exact;
       behind_mean = behind_mean [] texts (all_read h.tables all_judged) links_exact;
-      rules_mean = lines_mean true h.text h.lines links h.accepted links_exact;
+      rules_mean = lines_mean (leans_over links) h.text h.lines links h.accepted links_exact;
       none_believed = true_exits;
       sides = λ side codes table.
           word_means h.lines links side codes believed links_exact true_exits table;

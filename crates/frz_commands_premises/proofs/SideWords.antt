@@ -8,14 +8,13 @@ use Rattle.frz_sets.specs.declared.exit.Value.{Value}
 use Rattle.frz_game.specs.Bounds.{IsTableOf}
 use Rattle.frz_game.specs.Values.{AreTrueExits}
 use Rattle.frz_game.proofs.Lemmas.{table_means}
-use Rattle.frz_backs.specs.Links.{AreExact, Link, backs_of}
-use Rattle.frz_backs.specs.Values.{atlas_value}
+use Rattle.frz_backs.specs.Links.{AreExact, Link}
 use Rattle.frz_premises.specs.declared.sides.ExitValues.{ExitValues}
 use Rattle.frz_premises.specs.declared.sides.Strength.{Strength}
 use Rattle.frz_premises.specs.declared.sides.Strength.TheVariants.{Believed, Renounced, Undecided, Outcomes, Exact}
 use Rattle.frz_premises.specs.Sides.{exits_tell, renounces, strength_by}
 use Rattle.frz_premises.proofs.Lemmas.{all_true, exact_outcomes, exact_wins, nothing_bad_where_exact, renounced_by, strong_side_is_decided, true_over, undecided_by, undecided_exit}
-use Rattle.frz_commands_premises.specs.PremiseLines.{strength_over}
+use Rattle.frz_commands_premises.specs.PremiseLines.{built_value, leans_over, strength_over}
 use Rattle.frz_commands_premises.specs.SidesMean.{IsTrueInChess, StrengthMeans}
 
 -- where the exits are true, the codes are
@@ -40,10 +39,10 @@ none_by believed h = let few : believed ≤ 0 = ltb-false 0 believed h in omega 
 
 module _ (rules : RuleLines) (links : List Link) (side : Colour) (codes : List ℕ) (believed : ℕ)
     (tables : AreExact links)
-    (none : believed ≡ 0 → AreTrueExits rules (atlas_value rules (backs_of links)))
-    (table : IsTableOf rules (atlas_value rules (backs_of links)) side codes) where
+    (none : believed ≡ 0 → AreTrueExits rules (built_value rules links))
+    (table : IsTableOf rules (built_value rules links) side codes) where
   abbrev value : Board → Value
-  value = atlas_value rules (backs_of links)
+  value = built_value rules links
 
   abbrev told : ExitValues
   told = exits_tell rules value
@@ -58,7 +57,7 @@ module _ (rules : RuleLines) (links : List Link) (side : Colour) (codes : List �
       StrengthMeans rules links side codes word
   by_word Believed e = λ behind here.
       true_codes rules value side codes table
-      (true_over true rules links tables (all_true links tables behind) here)
+      (true_over (leans_over links) rules links tables (all_true links tables behind) here)
   by_word Renounced e = record {
     renounced = renounced_by (nat_lt 0 believed) (renounces rules side) told side e;
     true_codes = true_codes rules value side codes table (true_unless (λ b.

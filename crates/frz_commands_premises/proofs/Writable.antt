@@ -1,5 +1,5 @@
 -- What the lines tell can be written.
-use Rattle.std.proofs.Common.{Bool, true, ◌+◌, ◌≤◌, ◌++◌, ◌∷◌, [], ℕ, List, All, arith, length, refl}
+use Rattle.std.proofs.Common.{Bool, ◌+◌, ◌≤◌, ◌++◌, ◌∷◌, [], ℕ, List, All, arith, length, refl}
 use Rattle.std.proofs.lemmas.List.{length-append, length-map}
 use Rattle.std.proofs.lemmas.List.Elements.{All-append, All-cons, All-head, All-nil, All-tail}
 use Rattle.frz_board.specs.declared.man.Colour.TheVariants.{White, Black}
@@ -15,7 +15,7 @@ use Rattle.frz_exit_lines.specs.Numbers.{exit_numbers_of}
 use Rattle.frz_commands_premises.specs.declared.line.Line.{Line}
 use Rattle.frz_commands_premises.specs.declared.line.Line.TheVariants.{Back, Rules, Exit, Believed, Side}
 use Rattle.frz_commands_premises.specs.LineTexts.{IsWritable}
-use Rattle.frz_commands_premises.specs.PremiseLines.{TextLink, basis_lines, behind_lines, belief_among, last_lines, lines_by, links_in, premise_lines, strength_over, text_lines}
+use Rattle.frz_commands_premises.specs.PremiseLines.{TextLink, basis_lines, behind_lines, belief_among, last_lines, leans_over, lines_by, links_in, premise_lines, strength_over, text_lines}
 
 -- with more tables
 tellable_more : (m n : ℕ) (b : Basis) → m ≤ n → IsTellable m b → IsTellable n b
@@ -69,11 +69,12 @@ all_writable text rules tables few =
     let link : TextLink → Link = λ t. t.link in
     let many = length-map tables link in
     let links = links_in tables in
-    let texts = text_lines true text rules links in
+    let leans = leans_over links in
+    let texts = text_lines leans text rules links in
     let believed = belief_among (basis_lines text rules tables) in
     All-append IsWritable (basis_lines text rules tables) (last_lines rules links believed)
     (All-append IsWritable (behind_lines [] tables) (Rules ∷ texts)
     (writable_behind [] tables (omega (arith, few)))
     (All-cons IsWritable Rules texts tt
-    (writable_text true text rules links (omega (arith, few, many)))))
+    (writable_text leans text rules links (omega (arith, few, many)))))
     (writable_last rules links believed)

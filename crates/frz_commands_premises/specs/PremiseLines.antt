@@ -1,14 +1,16 @@
 -- The lines that `premises` answers, by the text and the rules of RULES and by the tables behind.
-use Rattle.std.specs.Prelude.{ℕ, Bool, true, false, List, [], ◌∷◌, ◌++◌, count_by, flat_map, length, map}
+use Rattle.std.specs.Prelude.{ℕ, Bool, false, List, [], ◌∷◌, ◌++◌, count_by, flat_map, length, map}
 use Rattle.std.specs.List.{zip}
+use Rattle.frz_board.specs.Boards.{Board}
 use Rattle.frz_board.specs.declared.man.Colour.{Colour}
 use Rattle.frz_board.specs.declared.man.Colour.TheVariants.{White, Black}
+use Rattle.frz_sets.specs.declared.exit.Value.{Value}
 use Rattle.frz_sets.specs.Views.{RuleLines}
 use Rattle.frz_backs.specs.BackTable.{BackTable}
-use Rattle.frz_backs.specs.Links.{Link, backs_of}
+use Rattle.frz_backs.specs.Links.{Link, backs_of, value_over}
 use Rattle.frz_backs.specs.Loaded.{link_loaded}
-use Rattle.frz_backs.specs.Values.{atlas_value}
 use Rattle.frz_atlas.specs.Behind.{TableBytes, link_of}
+use Rattle.frz_atlas.specs.FileOver.{leans_on}
 use Rattle.frz_exit_lines.specs.Numbers.{exit_numbers_of}
 use Rattle.frz_premises.specs.declared.basis.Basis.{Basis}
 use Rattle.frz_premises.specs.declared.sides.Strength.{Strength}
@@ -49,10 +51,19 @@ behind_lines before (t ∷ more) =
     Back (length before) ∷ text_lines t.link.leans t.text t.link.rules before
     ++ behind_lines (before ++ t.link ∷ []) more
 
+-- whether RULES lean on these tables: with none they stand alone
+abbrev pub leans_over : List Link → Bool
+leans_over links = leans_on (backs_of links)
+
+-- the values of the exits in the table that is built of RULES over these tables
+abbrev pub built_value : RuleLines → List Link → Board → Value
+built_value rules links = value_over (leans_over links) rules (backs_of links)
+
 -- the lines of all texts: of the tables from the left, and of RULES with all of them
 abbrev pub basis_lines : List ℕ → RuleLines → List TextLink → List Line
 basis_lines text rules tables =
-    behind_lines [] tables ++ Rules ∷ text_lines true text rules (links_in tables)
+    behind_lines [] tables
+    ++ Rules ∷ text_lines (leans_over (links_in tables)) text rules (links_in tables)
 
 -- how many of the lines tell of an exit line that is believed
 abbrev pub tells_belief : Line → Bool
@@ -68,7 +79,7 @@ belief_among lines = count_by tells_belief lines
 -- what the bounds of a side of RULES over these tables are, where so many lines are believed
 abbrev pub strength_over : RuleLines → List Link → ℕ → Colour → Strength
 strength_over rules links believed side =
-    strength_of rules believed (exits_tell rules (atlas_value rules (backs_of links))) side
+    strength_of rules believed (exits_tell rules (built_value rules links)) side
 
 -- the lines behind those of the texts: how many are believed, and what is said of each side
 abbrev pub last_lines : RuleLines → List Link → ℕ → List Line

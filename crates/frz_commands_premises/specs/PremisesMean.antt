@@ -10,8 +10,7 @@ use Rattle.frz_game.specs.Games.{game_of}
 use Rattle.frz_game.specs.Values.{AreTrueExits, IsTrueValue}
 use Rattle.frz_rules.specs.Text.{rules_of}
 use Rattle.frz_store.specs.Files.{Files}
-use Rattle.frz_backs.specs.Links.{AreExact, AreTrueLines, Link, backs_of}
-use Rattle.frz_backs.specs.Values.{atlas_value}
+use Rattle.frz_backs.specs.Links.{AreExact, AreTrueLines, Link}
 use Rattle.frz_atlas.specs.Behind.{AreJudged, TableBytes}
 use Rattle.frz_atlas.specs.Held.{all_held}
 use Rattle.frz_exit_lines.specs.Numbers.{exit_numbers_of}
@@ -25,7 +24,7 @@ use Rattle.frz_answer.specs.declared.status.Status.{Status}
 use Rattle.frz_answer.specs.declared.status.Status.TheVariants as statuses
 use Rattle.frz_answer.specs.Answers.{Answer}
 use Rattle.frz_atlas_prelude.specs.RulesRefusals.{Refuses}
-use Rattle.frz_commands_premises.specs.PremiseLines.{TextLink, basis_lines, belief_among, links_in, premises_text, strength_over, text_link_of}
+use Rattle.frz_commands_premises.specs.PremiseLines.{TextLink, basis_lines, belief_among, built_value, leans_over, links_in, premises_text, strength_over, text_link_of}
 use Rattle.frz_commands_premises.specs.SidesMean.{StrengthMeans}
 
 -- what is told of the exit lines of a text, with these tables, on which it leans or not
@@ -74,16 +73,17 @@ pub record TellsPremises (rules : List ℕ) (behind : List (List ℕ)) (files : 
   pub links : List Link
   pub links_are : links_in texts ≡ links
   pub behind_exact : AreExact links
-  -- what is told of each exit line: of the BACKs, each with those before it, and of RULES
+  -- what is told of each exit line: of the BACKs, each with those before it, and of RULES, which
+  -- lean on the BACKs where there is one
   pub behind_mean : AllLinesMean [] texts
-  pub rules_mean : LinesMean true rules_text lines links
-  -- where the text tells `believed 0`, the exits of RULES over the BACKs are true in chess, with
-  -- nothing assumed
+  pub rules_mean : LinesMean (leans_over links) rules_text lines links
+  -- where the text tells `believed 0`, the exits of the table of RULES over the BACKs, and of the
+  -- plain one where there are none, are true in chess, with nothing assumed
   pub none_believed : belief_among (basis_lines rules_text lines texts) ≡ 0 →
-      AreTrueExits lines (atlas_value lines (backs_of links))
-  -- what is told of each side is true of its codes in the one file of RULES over the BACKs
+      AreTrueExits lines (built_value lines links)
+  -- what is told of each side is true of its codes in that table
   pub sides : (side : Colour) (codes : List ℕ) →
-      IsTableOf lines (atlas_value lines (backs_of links)) side codes →
+      IsTableOf lines (built_value lines links) side codes →
       StrengthMeans lines links side codes
       (strength_over lines links (belief_among (basis_lines rules_text lines texts)) side)
 

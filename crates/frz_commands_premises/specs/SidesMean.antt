@@ -12,13 +12,13 @@ use Rattle.frz_arena.specs.Codes.{code_of}
 use Rattle.frz_arena.specs.WholeTruth.{MatesIn}
 use Rattle.frz_game.specs.ExactTables.{HasExactOutcomes}
 use Rattle.frz_game.specs.Games.{chess}
-use Rattle.frz_backs.specs.Links.{Link, backs_of}
-use Rattle.frz_backs.specs.Values.{atlas_value}
+use Rattle.frz_backs.specs.Links.{Link}
 use Rattle.frz_premises.specs.Believing.{BeliefHolds, BeliefsHold}
 use Rattle.frz_premises.specs.declared.sides.Strength.{Strength}
 use Rattle.frz_premises.specs.declared.sides.Strength.TheVariants.{Believed, Renounced, Undecided, Outcomes, Exact}
 use Rattle.frz_premises.specs.Sides.{renounces}
 use Rattle.frz_premises.specs.Undecided.{IsUndecided}
+use Rattle.frz_commands_premises.specs.PremiseLines.{built_value, leans_over}
 
 -- the codes of the side are true in chess: with a win it forces mate, and with a win or a hold its
 -- opponent does not
@@ -55,10 +55,11 @@ pub record IsTrueUndecided (rules : RuleLines) (value : Board → Value) (side :
 -- what is said of the codes of a side of RULES over these tables
 abbrev pub StrengthMeans : RuleLines → List Link → Colour → List ℕ → Strength → Type 0
 StrengthMeans rules links side codes Believed =
-    BeliefsHold links → BeliefHolds true rules links → IsTrueInChess rules side codes
+    BeliefsHold links → BeliefHolds (leans_over links) rules links →
+    IsTrueInChess rules side codes
 StrengthMeans rules links side codes Renounced = IsTrueRenouncing rules side codes
 StrengthMeans rules links side codes Undecided =
-    IsTrueUndecided rules (atlas_value rules (backs_of links)) side codes
+    IsTrueUndecided rules (built_value rules links) side codes
 StrengthMeans rules links side codes Outcomes = HasExactOutcomes rules side codes
 StrengthMeans rules links side codes Exact =
     HasExactOutcomes rules side codes × HasExactPlies rules side codes

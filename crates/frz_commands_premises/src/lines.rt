@@ -4,17 +4,19 @@ ghost use Rattle.frz_sets.specs.Sets.{size_of};
 ghost use Rattle.frz_sets.specs.Sound.{IsSound};
 ghost use Rattle.frz_rules.specs.Text.{rules_of};
 ghost use Rattle.frz_backs.specs.Loaded.{link_loaded};
+ghost use Rattle.frz_premises.specs.Sides.{exits_tell};
 ghost use Rattle.frz_commands_premises.specs.PremiseLines as words;
-ghost use Rattle.frz_commands_premises.specs.PremiseLines.{behind_lines, belief_among, lines_by, strength_over, text_link_loaded, text_lines};
+ghost use Rattle.frz_commands_premises.specs.PremiseLines.{behind_lines, belief_among, built_value, leans_over, lines_by, strength_over, text_link_loaded, text_lines};
 
 use crate::line::Line;
 use frz_backs::{AtlasBook, BackTable, leans};
 use frz_board::Colour;
 use frz_exit_lines::exit_line_numbers;
+use frz_exits::{ExitBook, RuleBook};
 use frz_game::Game;
 use frz_index::Set;
 use frz_prelude::RulesText;
-use frz_premises::{Basis, exit_values, premises_of, strength_of};
+use frz_premises::{Basis, ExitValues, exit_values, premises_of, strength_of};
 use frz_sets::Rules;
 use frz_steps::Steps;
 use std::alloc::{AllocError, Global};
@@ -120,6 +122,50 @@ pub fn count_beliefs(lines: &[Line]) -> usize
     lines.iter().filter(|line| tells_belief(line)).count()
 }
 
+/// Do rules lean on these tables? With none they stand alone.
+fn leans_on(backs: &[BackTable]) -> bool
+    ensures { result ≡ leans_over (map link_loaded backs.now) }
+{
+    !backs.is_empty()
+}
+
+/// What the values of the exits are, by this book.
+fn values_by<B: ExitBook, L: Ledger>(
+    rules: &Rules,
+    set: &Set,
+    book: &B,
+    steps: &mut Steps<L>,
+) -> ExitValues
+    requires fits { set.now ≡ rules.now.groups }
+    ensures told { result ≡ exits_tell rules.now (B.value_at book.now) }
+    ensures steps { steps.new ≤ steps.old + size_of rules.now.groups }
+    ensures later { steps.old ≤ steps.new }
+{
+    exit_values(&Game { set, rules, book }, steps)
+}
+
+/// What the values of the exits are in the table that is built of the rules over these tables, a
+/// plain one where there are none.
+fn built_values<L: Ledger>(
+    rules: &Rules,
+    set: &Set,
+    backs: &[BackTable],
+    steps: &mut Steps<L>,
+) -> ExitValues
+    requires sound { IsSound rules.now }
+    requires fits { set.now ≡ rules.now.groups }
+    ensures told { result
+        ≡ exits_tell rules.now (built_value rules.now (map link_loaded backs.now)) }
+    ensures steps { steps.new ≤ steps.old + size_of rules.now.groups }
+    ensures later { steps.old ≤ steps.new }
+{
+    if leans_on(backs) {
+        values_by(rules, set, &AtlasBook::new(rules, backs), steps)
+    } else {
+        values_by(rules, set, &RuleBook::new(rules), steps)
+    }
+}
+
 /// Adds what the bounds of each side are in chess, where so many exit lines are believed.
 fn add_sides<L: Ledger>(
     lines: &mut Vec<Line>,
@@ -138,13 +184,7 @@ fn add_sides<L: Ledger>(
     ensures steps { steps.new ≤ steps.old + size_of rules.now.groups }
     ensures later { steps.old ≤ steps.new }
 {
-    let book = AtlasBook::new(rules, backs);
-    let game = Game {
-        set,
-        rules,
-        book: &book,
-    };
-    let values = exit_values(&game, steps);
+    let values = built_values(rules, set, backs, steps);
     let white = strength_of(rules, believed, values, Colour::White);
     lines.push(Line::Side(Colour::White, white))?;
     let black = strength_of(rules, believed, values, Colour::Black);
@@ -175,8 +215,9 @@ pub fn premise_lines<L: Ledger>(
     let mut lines = Vec::new(alloc);
     add_behind(alloc, &mut lines, backs, steps)?;
     lines.push(Line::Rules)?;
+    let leans = leans_on(backs);
     add_text(
-        alloc, &mut lines, true, &read.text, rules, set, backs, steps,
+        alloc, &mut lines, leans, &read.text, rules, set, backs, steps,
     )?;
     let believed = count_beliefs(&lines);
     lines.push(Line::Believed(believed))?;

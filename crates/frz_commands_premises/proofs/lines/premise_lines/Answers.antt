@@ -13,7 +13,8 @@ add_sides-requires-clause-sound g c =
 pub returns-clause-told : goal.returns-clause-told
 returns-clause-told g c =
     let first = rw c.new-lines.ensures.items at c.in_ok-add_behind.ensures.added in
-    let more = rw c.deref.ensures.value at c.in_ok-add_text.ensures.added in
+    let more =
+    rw (c.deref.ensures.value, c.leans_on-leans.ensures) at c.in_ok-add_text.ensures.added in
     all_told c.args.read.now.text.items c.args.read.now.rules c.args.backs.now
     c.count_beliefs-believed.result c.add_behind.new.lines.items c.push.new.self.items
     c.add_text.new.lines.items c.push-2.new.self.items c.add_sides.new.lines.items
