@@ -11,6 +11,7 @@ use Rattle.frz_exits.specs.Books.{value_by}
 use Rattle.frz_index.specs.Members.{Member}
 use Rattle.frz_store.specs.Bytes.{HoldsBytes}
 use Rattle.frz_store.specs.Files.{Files}
+use Rattle.frz_table.specs.declared.kind.FileKind.{FileKind}
 use Rattle.frz_table.specs.declared.kind.FileKind.TheVariants.{Plain, Chained}
 use Rattle.frz_table.specs.Opening.{Contents}
 use Rattle.frz_check.specs.Kept.{kept_codes}
@@ -30,7 +31,8 @@ use Rattle.frz_answer.specs.Jobs.{Job}
 use Rattle.frz_answer.specs.Lawful.{IsLawful}
 use Rattle.frz_answer.specs.Words.{unless}
 use Rattle.frz_prelude.specs.Positions.{on_position}
-use Rattle.frz_prelude.specs.TableFiles.{OpensAs}
+use Rattle.frz_prelude.specs.TableFiles.{OpensAs, OpensAsKind, TellsTableFault}
+use Rattle.frz_commands_ask.specs.AskedFiles.{OpensAsked, TellsAskedFault}
 use Rattle.frz_commands_ask.specs.Meaning.{TellsBounds}
 use Rattle.frz_commands_ask.specs.Querying as queries
 use Rattle.frz_commands_ask.specs.Querying.{TellsKept, MeansQuery, querying_at}
@@ -55,6 +57,26 @@ use Rattle.frz_commands_table.specs.Headline.{Headline}
 use Rattle.frz_commands_table.proofs.Lemmas.{headline_contents, headline_opens, headline_tables}
 use Rattle.frz_freezer_top.specs.Commands.{job_of}
 use Rattle.frz_freezer_top.specs.Calls.{check, chaincheck, chainquery, line, play, query, report, Stays, Succeeds, TellsChainedBounds, TellsTrueBounds, TellsTrueLine, TellsTrueReport, TellsTrueSession}
+
+-- a file that opens as one kind, as a query says it and as all others do
+opening_of : (kind : FileKind) (table : List ℕ) (files : Files) (bytes : List ℕ)
+    (contents : Contents) → OpensAsked (Some kind) table files bytes contents
+    → OpensAsKind kind table files bytes contents
+opening_of kind table files bytes contents o = record { there = o.there; opens = o.opens }
+
+asked_of : (table : List ℕ) (files : Files) (bytes : List ℕ) (contents : Contents)
+    → OpensAs table files bytes contents → OpensAsked (Some Plain) table files bytes contents
+asked_of table files bytes contents o = record { there = o.there; opens = o.opens }
+
+asked_fault : (table : List ℕ) (files : Files) (text : List ℕ) → TellsTableFault table files text
+    → TellsAskedFault (Some Plain) table files text
+asked_fault table files text t = record {
+  bytes = t.bytes;
+  there = t.there;
+  fault = t.fault;
+  refused = t.refused;
+  told = t.told;
+}
 
 -- a word is refused with its own status, or it is taken
 module _ (files : Files) (input : List ℕ) (a : Answer) where
@@ -125,12 +147,13 @@ module _ (lawful : (later : ℕ → Files) (words : List (List ℕ))
         h.answer ((lawful later (query table fen)).means files h.input b h.bytes h.answer) in
         let means : MeansQuery (Some Plain) table at.0 files b = at.2 in
         let kept : TellsKept (Some Plain) table at.0 files b.text =
-        subst (λ (s : Status). queries.MeansStatus Plain table at.0 files s b.text) h.done
+        subst (λ (s : Status). queries.MeansStatus (Some Plain) table at.0 files s b.text) h.done
         means.says in
-        let same = headline_contents table files exact kept.bytes kept.contents kept.open_file in
+        let open_file = opening_of Plain table files kept.bytes kept.contents kept.open_file in
+        let same = headline_contents table files exact kept.bytes kept.contents open_file in
         let bounds : TellsBounds kept.contents.rules (value_by kept.contents.rules) at.0 b.text =
         kept.where_exact (value_by kept.contents.rules)
-        (headline_tables table files exact kept.bytes kept.contents kept.open_file) in
+        (headline_tables table files exact kept.bytes kept.contents open_file) in
         record {
           exact = exact;
           p = at.0;
@@ -169,8 +192,10 @@ module _ (lawful : (later : ℕ → Files) (words : List (List ℕ))
         (headline_tables table files exact bytes contents opens)
 
     -- it opens, and nothing of the file is refused
-    own : OpensAs table files exact.bytes (record { text = exact.text; rules = exact.rules })
-    own = headline_opens table files exact
+    own : OpensAsked (Some Plain) table files exact.bytes
+        (record { text = exact.text; rules = exact.rules })
+    own = asked_of table files exact.bytes (record { text = exact.text; rules = exact.rules })
+        (headline_opens table files exact)
 
     pub queried_well : (fen input : List ℕ) → (job_of later (query table fen)).answers files input b
         → OneOf b.status (Success ∷ Fen ∷ Outside ∷ [])
@@ -180,7 +205,7 @@ module _ (lawful : (later : ℕ → Files) (words : List (List ℕ))
 
     report_status : (s : Status) → reports.MeansStatus table files s b.text → s ≡ Success
     report_status Success means = refl
-    report_status Table means = absurd (never_refused own means)
+    report_status Table means = absurd (never_refused own (asked_fault table files b.text means))
     report_status Missing means = absurd (never_missing own means)
     report_status s means = absurd means
 
@@ -208,7 +233,7 @@ module _ (lawful : (later : ℕ → Files) (words : List (List ℕ))
       line_status side p Wrong means =
           let has = means.has in
           absurd (means.not_exact (stays_exact now stays_now has.bytes has.contents has.open_file))
-      line_status side p Table means = absurd (never_refused own means)
+      line_status side p Table means = absurd (never_refused own (asked_fault table files b.text means))
       line_status side p Missing means = absurd (never_missing own means)
       line_status side p s means = absurd means
 
@@ -221,7 +246,7 @@ module _ (lawful : (later : ℕ → Files) (words : List (List ℕ))
       session_status side p input Wrong means =
           let has = means.has in
           absurd (means.not_exact (stays_exact now stays_now has.bytes has.contents has.open_file))
-      session_status side p input Table means = absurd (never_refused own means)
+      session_status side p input Table means = absurd (never_refused own (asked_fault table files b.text means))
       session_status side p input Missing means = absurd (never_missing own means)
       session_status side p input s means = absurd means
 
@@ -305,12 +330,13 @@ module _ (lawful : (later : ℕ → Files) (words : List (List ℕ))
       in
       let means : MeansQuery (Some Chained) table at.0 files b = at.2 in
       let kept : TellsKept (Some Chained) table at.0 files b.text =
-      subst (λ (s : Status). queries.MeansStatus Chained table at.0 files s b.text) h.done
+      subst (λ (s : Status). queries.MeansStatus (Some Chained) table at.0 files s b.text) h.done
       means.says in
-      let same = chain_contents table back files exact kept.bytes kept.contents kept.open_file in
+      let open_file = opening_of Chained table files kept.bytes kept.contents kept.open_file in
+      let same = chain_contents table back files exact kept.bytes kept.contents open_file in
       let bounds : TellsBounds kept.contents.rules (chain_value kept.contents.rules exact.behind)
       at.0 b.text = kept.where_exact (chain_value kept.contents.rules exact.behind)
-      (chain_tables table back files exact kept.bytes kept.contents kept.open_file) in
+      (chain_tables table back files exact kept.bytes kept.contents open_file) in
       record {
         exact = exact;
         p = at.0;
