@@ -36,9 +36,9 @@ find_tables_behind() {
 find_names_of_atlas() {
     case "${1-}" in
         check | report | ask | premises) find_tables_behind $# 2 ;;
-        build | verdict | each) find_tables_behind $# 3 ;;
+        build | verdict) find_tables_behind $# 3 ;;
         line | play | why) ! is_side "${4-}" || find_tables_behind $# 4 ;;
-        query) [ $# -ne 3 ] || reads=(1) ;;
+        query | each) [ $# -ne 3 ] || reads=(1) ;;
         size) [ $# -ne 2 ] || reads=(1) ;;
     esac
     [ "${1-}" != build ] || [ "${#reads[@]}" -eq 0 ] || makes=2

@@ -2,13 +2,13 @@
 
 from lib.game import HOLD, SIDES, bound_text, is_win, opponent
 from lib.san import san_of
-from lib.walks import behind_at, end_at
+from lib.walks import end_at
 
 HELD, LOST = 2 ** 32, 2 ** 34
 
 
 def each_text(table, number):
-    """The text of `each` at a number of a table, over the tables of its game."""
+    """The text of `each` at a number of a table."""
     game = table.game
     if (last := end_at(game, number)) is not None:
         return last
@@ -18,12 +18,10 @@ def each_text(table, number):
 
 
 def said_of(table, arm):
-    """The bounds after a move, by the table behind where one has the position; or the value of the exit."""
+    """The bounds after a move, or the value of the exit."""
     mark = "" if arm.free else ", renounced"
     if arm.number is not None:
         return bounds_text([table.codes[side][arm.number] for side in SIDES]) + mark
-    if (place := behind_at(table.game, arm.end)) is not None:
-        return f"back {place + 1} {bounds_text(table.game.back.backs[place].codes_at(arm.end))}{mark}"
     return f"exit {arm.value}{mark}"
 
 

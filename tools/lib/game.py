@@ -243,9 +243,8 @@ def class_of(position):
     return "".join(sorted(position.men.values(), key="KQRBNPkqrbnp".index))
 
 
-def report_text(game, white, black, ranked=False):
-    """The text of the command `report` over these codes; that of `atlas` has the most frequent classes of open
-    exits first, each with its first position."""
+def report_text(game, white, black):
+    """The text of the command `report` over these codes."""
     lines = [
         f"squeeze {w} {b} {write_fen(game.positions[w])}" for w, b in squeezes(game, white, black)
     ]
@@ -255,9 +254,6 @@ def report_text(game, white, black, ranked=False):
         for arm in arms or []:
             if arm.number is None and arm.value == "unknown":
                 classes.setdefault(class_of(arm.end), []).append(arm.end)
-    if ranked:
-        classes = dict(sorted(classes.items(), key=lambda item: -len(item[1])))
-    for name, ends in classes.items():
-        lines.append(f"exits {len(ends)} {name}" + (f" {write_fen(ends[0])}" if ranked else ""))
+    lines += [f"exits {len(ends)} {name}" for name, ends in classes.items()]
     lines.append(f"squeezes {pairs} unassigned {sum(map(len, classes.values()))}")
     return "".join(line + "\n" for line in lines)

@@ -282,7 +282,6 @@ def behind_all():
     files = {**files, "t": over}
     believed = "1k6/8/1K6/8/8/8/8/R7 b - - 0 1".replace("1k6", "3k4")
     for words, text, given in (
-        (("each", "t", OPEN_IN_A, "d.t"), "Kc8 exit white wins 7\nKa8 white wins within 1, black none\n", ""),
         (("ask", "t", "d.t"), "exit white wins 7\ninput ended\n", behind),
         (("line", "t", OPEN_IN_A, "white", "d.t"), "white wins within 8\nb8c8\nexit white wins 7\n", ""),
         (("premises", "R", "d.t"), f"back 1\nline 5 believed {believed}\nrules\nline 5 asks nothing\n"

@@ -73,14 +73,7 @@ SIZE_OF_A = "turns 2\ngroup 1 1\ngroup 2 2\ngroup 3 2\nnumbers 8\ndisk 153\nmemo
 REPORT_OF_A = "exits 38 KRk\nsqueezes 0 unassigned 38\n"
 # From 0 and 1 the rook has 2 moves into A; 18 and 17 are left, and Kc8 from 3.
 # Ra2 from 0 is the first of them, since Rh1 leads into A.
-REPORT_OF_H = "exits 36 KRk k7/8/1K6/8/8/8/R7/8 b - - 0 1\nsqueezes 0 unassigned 36\n"
-# The same of A by `atlas`, where Ra1 from 0 is the first.
-RANKED_OF_A = "exits 38 KRk k7/8/1K6/8/8/8/8/R7 b - - 0 1\nsqueezes 0 unassigned 38\n"
-# From 0 in H: Rh1 and Rh8 lead into back 2, whose wins have no plies, as one of N has none.
-FIRST_IN_H = "k7/8/1K6/8/8/8/7R/8 w - - 0 1"
-EACH_IN_H = "Rh1 back 2 white wins within 2, black none\nRh8# back 2 white wins within 0, black none\n" + "".join(
-    f"{san} exit unknown\n" for san in "Ra2+ Rb2 Rc2 Rd2 Re2 Rf2 Rg2 Rh3 Rh4 Rh5 Rh6 Rh7 Ka5 Kb5 Kc5 Ka6 Kc6 Kc7".split()
-)
+REPORT_OF_H = "exits 36 KRk\nsqueezes 0 unassigned 36\n"
 # What `ask` answers by H over N and A: of H, of the second and of the first behind it, of none, and no position.
 ASKED_IN_H = (
     (IN_H, "white wins within 2, black fails within 2"), (OPEN_IN_A, "back 2 white wins within 2, black fails within 2"),
