@@ -13,7 +13,8 @@ Key = "tuple[str, int]"  # the board without its kings, and the square that a pa
 
 
 class Slice:
-    """The planes by side to move: which positions are valid, where the attacker wins, and since when."""
+    """The planes by side to move: which positions are valid; and of the wins that are sure, then of those that are
+    guessed, where they are, where none is, and since when."""
 
     __slots__ = (
         "key", "men", "valid", "stale", "steps", "kings", "before", "kings_before", "win", "free", "layers", "is_open", "kept",
@@ -38,7 +39,7 @@ class Slice:
         self.reset()
 
     def reset(self) -> None:
-        self.win, self.free, self.layers = [0, 0], list(self.valid), [{}, {}]
+        self.win, self.free, self.layers = [0] * 4, 2 * list(self.valid), [{} for _ in range(4)]
 
     def has(self, position: Position) -> bool:
         return bool(self.valid[SIDES.index(position.turn)] >> bit_of(position) & 1)
@@ -70,11 +71,13 @@ class Book:
 
     def __init__(self):
         self.slices: dict[Key, Slice] = {}
+        self.made: list[Slice] = []  # the same in their order
 
     def get(self, key: Key) -> Slice:
         found = self.slices.get(key)
         if found is None:
             self.slices[key] = found = Slice(key)
+            self.made.append(found)
         return found
 
     def open(self, piece: Slice, frozen: Optional[int] = None) -> None:
