@@ -6,7 +6,7 @@ from collections import defaultdict, deque
 from typing import Optional
 
 from proving.board import FORWARD, PAWN_HITS, Position
-from proving.planes import BESIDE, SIDES, WHITE, union
+from proving.planes import BESIDE, BLACK, SIDES, WHITE, union
 from proving.sketch import Reached, Sketch
 from proving.slices import Book, Slice, bit_of, key_of
 from proving.tables import OutOfTime, used
@@ -25,11 +25,12 @@ class Hunt:
     """Looks for a win of the side from the position."""
 
     def __init__(self, position: Position, own: str):
-        self.book, self.own = Book(), SIDES.index(own)
+        self.own = SIDES.index(own)
+        self.queens, self.their_queens = (position.board.count(man) for man in ("Qq"[self.own], "qQ"[self.own]))
+        self.book = Book(self.own, self.queens)
         self.sketch = Sketch(self.book, self.own)
         self.side, self.bit = SIDES.index(position.turn), 1 << bit_of(position)
         self.root = self.book.get(key_of(position))
-        self.queens, self.their_queens = (count(self.root, man) for man in ("Qq"[self.own], "qQ"[self.own]))
         self.is_wide = False
         self.opened = 0
         self.fresh: list[Slice] = []  # opened, and not yet settled
@@ -43,7 +44,7 @@ class Hunt:
             if piece.is_open:
                 continue
             left -= 1
-            self.book.open(piece, self.own if has_new_queen(piece, self.own, self.queens) else None)
+            self.book.open(piece)
             self.opened += 1
             self.fresh.append(piece)
             name = family(piece)
@@ -134,10 +135,10 @@ def favourites(reached: Reached) -> set[Slice]:
 
 
 def family(piece: Slice) -> tuple:
-    """The pawns where they stand, and what other men there are."""
+    """The pawns and others who stand still, on their squares, and what other men there are."""
     if piece.kept is None:
-        pawns = tuple((s, m) for s, m in piece.men if m in "Pp")
-        piece.kept = [(pawns, "".join(sorted(m for _, m in piece.men if m not in "Pp"))), None]
+        fast = tuple((s, m) for s, m in piece.men if m in "Pp" or m not in "Qq" and piece.still == (WHITE if m.isupper() else BLACK))
+        piece.kept = [(fast, "".join(sorted(m for s, m in piece.men if (s, m) not in fast))), None]
     return piece.kept[0]
 
 
@@ -149,15 +150,6 @@ def is_contested(piece: Slice, own: int) -> bool:
 
 def has_pawns_alone(piece: Slice) -> bool:
     return all(man in "Pp" for _, man in piece.men)
-
-
-def count(piece: Slice, man: str) -> int:
-    return piece.key[0].count(man)
-
-
-def has_new_queen(piece: Slice, own: int, queens: int) -> bool:
-    """Has the side a queen more than at first, and the other none? Then its pawns need not move."""
-    return count(piece, "Qq"[own]) > queens and not count(piece, "qQ"[own])
 
 
 def worth(piece: Slice, own: int):
