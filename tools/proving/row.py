@@ -141,7 +141,9 @@ class Row:
 
 
 def may_lead(cell: Cell, target: Cell) -> bool:
-    """May a move out of the cell come to a position of the other? False only where it surely may not."""
+    """May a move out of the cell come to a position of the other? False only where it surely may not, or is not to."""
+    if cell.leads is not None and target.name not in cell.leads:
+        return False
     for side in "wb":
         for kind in "PNBRQ":
             here, there = cell.ranges[side + kind], target.ranges[side + kind]
