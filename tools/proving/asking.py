@@ -1,5 +1,5 @@
-"""What the programs say of a rules text and its table: `check`, `query`, `premises`. Each answer is read to its
-last word, and one that has another form than the pages give it shows nothing."""
+"""What the programs say of a table and a position: `query` and `verdict`. Each answer is read to its last word, and
+one that has another form than the pages give it shows nothing."""
 
 import os
 import re
@@ -11,9 +11,7 @@ from board.head import LEANING, PLAIN, NoTable, read_head
 SIDES = ("white", "black")
 FAULTS = (2, 3, 4, 5, 6, 7, 12)  # the statuses by which a program refuses what it was given
 BOUND = re.compile(r"(white|black) (?:(holds|none)|wins within (\d+))")
-WORTHS = (
-    "true if believed", "true, moves renounced", "true, exits undecided", "exact but for plies", "exact",
-)
+WINS = re.compile(r"(white|black) wins(?:, mate within (\d+))?")
 
 
 class NothingShown(Exception):
@@ -51,17 +49,11 @@ class Bound:
 
 @dataclass(frozen=True)
 class Told:
-    """The answers of the programs about the last table of a row, each as it was printed."""
+    """What `verdict` says of a position by the last table of a row, as it was printed."""
 
     name: str
     over: tuple[str, ...]
-    check: str
-    query: str
-    premises: str
-
-    @property
-    def text(self):
-        return self.check + self.query + self.premises
+    text: str
 
 
 class Asking:
@@ -88,14 +80,6 @@ class Asking:
             raise ProgramEnded(program, status, text.strip())
         return text
 
-    def check(self, name, over):
-        """The answer of `check`, which has gone over the table and all behind it."""
-        text = self.call("atlas" if over else "freezer", "check", table_of(name), *map(table_of, over))
-        sizes = r" over" + r" \d+" * len(over) if over else ""
-        if not re.fullmatch(rf"exact \d+{sizes}\n", text):
-            raise NothingShown(f"check {table_of(name)} does not say that it is exact: {text.strip()}")
-        return text
-
     def query(self, name, over, fen):
         return self.call("atlas" if over else "freezer", "query", table_of(name), fen)
 
@@ -109,14 +93,11 @@ class Asking:
             raise
         return True
 
-    def premises(self, name, over):
-        return self.call("atlas", "premises", text_of(name), *map(table_of, over))
-
     def told(self, name, over, fen):
-        """All that is asked of the last table of a row, after each text was held against its table."""
+        """The verdict by the last table of a row, after each text was held against its table."""
         for each in (*over, name):
             self.compare(each, PLAIN if each == name and not over else None)
-        return Told(name, over, self.check(name, over), self.query(name, over, fen), self.premises(name, over))
+        return Told(name, over, self.call("atlas", "verdict", table_of(name), fen, *map(table_of, over)))
 
     def compare(self, name, kind):
         """The text of the folder has to be the one in the table, byte for byte."""
@@ -149,17 +130,9 @@ def read_query(text):
     return {match[1]: Bound(match[2]) if match[2] else Bound("wins", int(match[3])) for match in found}
 
 
-def read_premises(text, backs):
-    """How many lines are believed, those lines, and what the bounds of each side are worth."""
-    *lines, count, white, black = text.rstrip("\n").split("\n") if text.count("\n") > 3 else ("", "", "", "")
-    believed = [line for line in lines if re.match(r"line \d+ believed ", line)]
-    heads = [line for line in lines if not line.startswith("line ")]
-    worth = {side: line.partition(" ")[2] for side, line in zip(SIDES, (white, black)) if line.startswith(side + " ")}
-    if (
-        heads != [f"back {place}" for place in range(1, backs + 1)] + ["rules"]
-        or count != f"believed {len(believed)}"
-        or len(worth) != 2
-        or not set(worth.values()) <= set(WORTHS)
-    ):
-        raise NothingShown(f"premises says what this page does not know: {text.strip()}")
-    return believed, worth
+def read_verdict(text, fen):
+    """What is said of the position, and the lines that are believed for it."""
+    first, said, *believed, count, end = text.split("\n") if text.count("\n") > 2 else ("",) * 4
+    if first != fen or count != f"believed {len(believed)}" or end:
+        raise NothingShown(f"verdict says what this page does not know: {text.strip()}")
+    return said, believed

@@ -26,9 +26,10 @@ class Cell:
     slots: dict[int, Slot]
     about: str = ""
     frozen: set[int] = field(default_factory=set)  # pawns that need not advance
+    leads: Optional[set[str]] = None  # the cells into which it is to lead, by name; None where it may lead into any
 
     def copy(self) -> Cell:
-        return Cell(self.name, {i: s.copy() for i, s in self.slots.items()}, self.about, set(self.frozen))
+        return Cell(self.name, {i: s.copy() for i, s in self.slots.items()}, self.about, set(self.frozen), self.leads)
 
     def changed(self) -> Cell:
         """To be called after a change of the slots: forgets what was computed from them."""

@@ -1,6 +1,5 @@
 """From what was found to the verdict and the folder's pages."""
 
-import re
 from dataclasses import dataclass
 
 from board.answers import Answers
@@ -8,10 +7,9 @@ from board.asking import Refused
 from board.given import given_page
 from board.head import NoTable
 from proving import folder as pages
-from proving.asking import NothingShown, read_query
+from proving.asking import NothingShown
 from proving.folder import Proof
 from proving.game import Game
-from proving.longest import behind, counts_on
 from proving.notation import numbered
 from proving.origin import origin_of
 from proving.proof import Found, Programs
@@ -20,7 +18,6 @@ from proving.verdict import Outcome, Shown, ask, judge, verdict
 
 MANY = 6  # moves to an open position that are told whole
 POSITIONS = 60  # of the page that is given away, at most
-PIECES = {"Q": "queen", "R": "rook", "B": "bishop", "N": "knight"}
 
 
 @dataclass(frozen=True)
@@ -54,20 +51,18 @@ def write_pages(case, found, row, told, shown, outcome):
     """Writes the pages; the verdict."""
     game = Game(case.programs, case.folder, [(each.name, *each.over) for each in told])
     try:
-        way = way_of(game, case.fen, shown)
         root = tree_of_win(game, case.fen, shown.winner) if shown.winner else tree_of_hold(
             game, case.fen, shown.safe, found.threats
         )
         given = page_to_give(game, case.fen)
     finally:
         game.stop()
-    line = verdict(outcome, shown, way, gap_of(case, found))
+    line = verdict(outcome, shown, gap_of(case, found))
     if not case.keep and outcome is not Outcome.NOT_SHOWN:
         pages.drop_others(case.folder, row)
     origins = [origin_of(name, getattr(case.programs, name)) for name in ("freezer", "atlas")]
     sizes, sums = pages.sizes_of(case.folder, row), pages.sums_of(case.folder, row)
-    longest = longest_behind(case.folder, told, shown)
-    proof = Proof(case, row, told, shown, outcome, line, way, root, longest, sizes, sums, origins)
+    proof = Proof(case, row, told, shown, outcome, line, root, sizes, sums, origins)
     pages.write(case.folder, proof)
     if given:
         pages.put(case.folder, pages.GIVEN, given)
@@ -82,29 +77,6 @@ def page_to_give(game, fen):
         return given_page(Answers(game.calls, first, *others[:1]), fen, POSITIONS, lambda count: None)
     except Refused:
         return None
-
-
-def longest_behind(folder, told, shown):
-    """The longest win of the winner in each table behind the one by which he wins; nothing where none is told."""
-    for each in told if shown.winner and shown.plies else ():
-        if read_query(each.query)[shown.winner].kind == "wins" and counts_on(folder, each, shown.winner):
-            return behind(folder, each, shown.winner)
-    return None
-
-
-def way_of(game, fen, shown):
-    """Where the best line of a win leaves its table, in words; nothing where its plies count to mate."""
-    if not shown.plies or shown.plies.to_mate:
-        return ""
-    steps, plies = game.line(fen, shown.winner)
-    if not 0 < plies == shown.plies.count <= len(steps):
-        return ""
-    san = steps[plies - 1]["san"]
-    if promoted := re.search("=([QRBN])", san):
-        end = f"a new {PIECES[promoted[1]]}"
-    else:
-        end = f"the capture {san}" if "x" in san else f"the move {san}"
-    return f"to {end} in the best line"
 
 
 def gap_of(case, found):

@@ -43,7 +43,13 @@ class Cover:
             self.join(*pair)
         if len(self.parts) > most or max(self.sizes.values()) > self.limit:
             return None
-        return [cell_of(self.parts[i], f"c{n:02d}", self.own) for n, i in enumerate(self.ordered(), 1)]
+        names = {i: f"c{n:02d}" for n, i in enumerate(self.ordered(), 1)}
+        cells = []
+        for i, name in names.items():
+            cell = cell_of(self.parts[i], name, self.own)
+            cell.leads = {names[j] for j in self.parts[i].behind}
+            cells.append(cell)
+        return cells
 
     def pairs(self):
         names = sorted(self.parts)

@@ -13,7 +13,8 @@ from proving.board import Position, legal_moves, move_text, read_fen, write_fen
 from proving.proof import Cell, Found, Status
 from proving.questions import SIDE, Question, proves, status_of
 from proving.row import LOST, Row
-from proving.small import make_small
+from proving.searching import both_hold
+from proving.small import is_proved, make_small
 from proving.state import save
 from proving.tables import is_safe, write_text
 
@@ -22,11 +23,14 @@ MOST_MOVES, MOST_THREATS = 400, 20
 
 def answer(fen: str, side: Optional[str], claim: Optional[str], questions: list[Question], folder: str, tell) -> Found:
     shown = {proves(question): question for question in questions if proves(question)}
+    draws = [question for question in questions if question.is_draw]
     win = next((key for key in shown if key[1] == "win"), None)
     holds = [key for key in shown if key[1] == "hold"]
     if win is not None:
         chosen = [shown[win]]
         found = (SIDE[win[0]], "win")
+    elif draws and claim in (None, "draw"):
+        chosen, found = draws[:1], (None, "draw")
     elif len(holds) == 2:
         chosen, found = [shown[key] for key in sorted(holds, reverse=True)], (None, "draw")
     elif holds:
@@ -49,7 +53,7 @@ def gathered(fen, side, claim, status: Status, chosen: list[Question], questions
         row = trimmed(question.search.row)
         if question.status is Status.PROVED:
             row.shop.until = float("inf")
-            row = make_small(row, read_fen(fen), tell)
+            row = make_small(row, read_fen(fen), tell, both_hold if len(chosen) == 1 and claim == "draw" else is_proved)
         made = settle_files(row, folder, len(cells) + 1)
         save(row, fen, folder)
         cells, roots = cells + made, roots + (made[-1].name,)

@@ -4,7 +4,6 @@ import json
 import os
 import re
 from dataclasses import dataclass
-from typing import Optional
 
 from board.head import read_head
 from proving.asking import Told, table_of, text_of
@@ -32,9 +31,7 @@ class Proof:
     shown: Shown
     outcome: Outcome
     line: str  # the verdict
-    way: str  # where the best line of a win comes to
     root: Node
-    longest: Optional[list[int]]  # the plies of the winner's longest win in each table behind, where they count to mate
     sizes: dict
     sums: dict
     origins: list[Origin]
@@ -63,7 +60,7 @@ def write(folder, proof: Proof):
     put(folder, "SHA256SUMS", "".join(f"{proof.sums[name]}  {name}\n" for name in sorted(proof.sums)))
     put(folder, "Makefile", makefile(proof.row, proof.fen, proof.told))
     put(folder, PICTURE, picture(proof.fen))
-    put(folder, "PROOF.pgn", pgn(proof.fen, proof.root, result_of(proof.shown), statement(proof.shown, proof.way)))
+    put(folder, "PROOF.pgn", pgn(proof.fen, proof.root, result_of(proof.shown), statement(proof.shown)))
     put(folder, "PROOF.md", page(proof))
 
 

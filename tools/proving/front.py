@@ -79,7 +79,7 @@ def prove(case, asked):
     found = found or search(
         case.fen, case.side, case.claim, case.programs, case.folder, asked.budget, tell, bool(asked.resume)
     )
-    tell("asking check, query and premises of all tables")
+    tell("asking the verdict by all tables")
     outcome, line = conclude(case, found)
     tell(f"done; the proof is {case.folder}/PROOF.md" if pages.has_page(case.folder) else "done")
     print(f"{case.fen}: {line}")

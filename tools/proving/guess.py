@@ -1,8 +1,8 @@
 """The exit lines with which the search of a win goes on: what is not known yet is won for the side, at a price.
 
-Such texts prove nothing. `atlas` asks exit lines before the tables behind, so each event that a cell behind answers
-has a line `exit unknown` in front. Where a program asks the lines behind `exit unknown if always` after the tables
-(ASKED_LAST), that line alone does it.
+Such texts prove nothing. Where `atlas` asks exit lines before the tables behind, each event that a cell behind answers
+has a line `exit unknown` in front. Where it asks the lines behind `exit unknown if always` after the tables
+(ASKED_LAST), that line alone does it, and all prices are above the plies of most wins behind.
 """
 
 from __future__ import annotations
@@ -15,13 +15,14 @@ from proving.board import FORWARD, PAWN_HITS
 from proving.cells import Cell
 from proving.events import NEW_MEN, Event, Kind, gone, guarded_squares, is_silly
 from proving.groups import COLOUR, squares_text
+from proving.tables import ASKED_LAST
 
-ASKED_LAST = False
 MOST_LINES, MOST_CONDITIONS = 128, 8
-PRICES = {Kind.PROMOTION: 60, Kind.STEP: 300, Kind.CAPTURE: 100, Kind.LEAVE: 900}
+LEAST = 200 if ASKED_LAST else 0
 DEAR = 900
-AFTER_PROMOTION = {Kind.STEP: 300, Kind.CAPTURE: 120}  # with a new queen the side needs no pawn more
-LOST_PAWN = 200  # the opponent takes one, where the side has a new queen
+PRICES = {Kind.PROMOTION: LEAST + 60, Kind.STEP: LEAST + 300, Kind.CAPTURE: LEAST + 100, Kind.LEAVE: DEAR}
+AFTER_PROMOTION = {Kind.STEP: LEAST + 300, Kind.CAPTURE: LEAST + 120}  # with a new queen the side needs no pawn more
+LOST_PAWN = LEAST + 200  # the opponent takes one, where the side has a new queen
 # The tiers: promotions into cells that are there; all ways into these; what else is a plan; and all the rest.
 QUEENS, ENTRIES, PLANS, SILLY = -2, -1, 0, 1
 
@@ -65,10 +66,11 @@ def is_passed(cell: Cell, side: str, square: int) -> bool:
 
 
 def guess_lines(cell: Cell, own: str, tier: int, covered: dict, barred: list[str], cells: dict[str, Cell]) -> list[str]:
-    """The lines of the cell; `covered` has for each event that a cell behind answers its condition and that cell."""
+    """The lines of the cell; `covered` has for each event that a cell behind answers its condition and that cell, and
+    `cells` are those behind by their names."""
     if tier == QUEENS:
         covered = {key: kept for key, kept in covered.items() if key[0] is Kind.PROMOTION}
-    is_last = ASKED_LAST and tier != QUEENS
+    is_last = ASKED_LAST and bool(cells) and tier != QUEENS
     answered = ["exit unknown if always"] if is_last else list(answered_lines(cell, covered, cells))
     hanging = [f"exit {COLOUR[other(own)]} holds if {words}" for words in hanging_words(cell, own)] if tier < SILLY else []
     if tier < PLANS:
@@ -138,7 +140,7 @@ def rescue_lines(cell: Cell, own: str, covered: dict, cells: dict[str, Cell]) ->
     """The lines of a hold's guesses: a way out of the side's own saves it, any of the opponent's does not."""
     me, foe = COLOUR[own], COLOUR[other(own)]
     lines = [f"exit {foe} wins if {words}" for words in hanging_words(cell, own)]
-    lines += ["exit unknown if always"] if ASKED_LAST else answered_lines(cell, covered, cells)
+    lines += ["exit unknown if always"] if ASKED_LAST and cells else answered_lines(cell, covered, cells)
     if any(slot.side == own and slot.is_pawn for slot in cell.slots.values()):
         lines.append(f"exit {me} holds if count:{me}:Q:{cell.most_of(own, 'Q') + 1}-16")
     lines += [f"exit {me} holds if {gone(cell, i)}" for i, slot in cell.slots.items() if slot.side != own and slot.is_sure and not slot.is_king]

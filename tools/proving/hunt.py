@@ -6,10 +6,11 @@ from collections import defaultdict, deque
 from typing import Optional
 
 from proving.board import FORWARD, PAWN_HITS, Position
-from proving.planes import BESIDE, SIDES, WHITE, union
+from proving.planes import BESIDE, BLACK, SIDES, WHITE, union
 from proving.sketch import Reached, Sketch
 from proving.slices import Book, Slice, bit_of, key_of
 from proving.tables import OutOfTime, used
+from proving.waves import GUESSED, SURE
 
 WORTH = {"Q": 9.0, "R": 5.0, "B": 3.0, "N": 3.0, "P": 1.0}
 EVEN, POINT = 400, 25  # the price of an equal slice, and of a pawn
@@ -17,18 +18,19 @@ LEAST, MOST = 100, 1500
 MOST_SLICES = 60_000
 MOST_OPENED = 60  # families at a time
 NEARLY = 50  # what is so much less dear than the dearest waits
-AT_ONCE, FEW = 200, 4  # slices of a family; the latter with several queens and rooks
+AT_ONCE, FEW = 200, 4  # slices of a family; the latter with several queens and rooks, or where the opponent has one
 
 
 class Hunt:
     """Looks for a win of the side from the position."""
 
     def __init__(self, position: Position, own: str):
-        self.book, self.own = Book(), SIDES.index(own)
+        self.own = SIDES.index(own)
+        self.queens, self.their_queens = (position.board.count(man) for man in ("Qq"[self.own], "qQ"[self.own]))
+        self.book = Book(self.own, self.queens)
         self.sketch = Sketch(self.book, self.own)
         self.side, self.bit = SIDES.index(position.turn), 1 << bit_of(position)
         self.root = self.book.get(key_of(position))
-        self.queens, self.their_queens = (count(self.root, man) for man in ("Qq"[self.own], "qQ"[self.own]))
         self.is_wide = False
         self.opened = 0
         self.fresh: list[Slice] = []  # opened, and not yet settled
@@ -36,13 +38,13 @@ class Hunt:
 
     def open_family(self, piece: Slice) -> None:
         """Opens a slice, and all to which the men who are no pawns can move, with nobody taken."""
-        todo, left = deque([piece]), FEW if sum(man in "QRqr" for _, man in piece.men) > 1 else AT_ONCE
+        todo, left = deque([piece]), FEW if is_contested(piece, self.own) else AT_ONCE
         while todo and left:
             piece = todo.popleft()
             if piece.is_open:
                 continue
             left -= 1
-            self.book.open(piece, self.own if has_new_queen(piece, self.own, self.queens) else None)
+            self.book.open(piece)
             self.opened += 1
             self.fresh.append(piece)
             name = family(piece)
@@ -52,27 +54,28 @@ class Hunt:
 
     def step(self) -> Optional[bool]:
         """Solves, and opens what the soonest win rests on. True where it rests on nothing, False where there is none."""
-        self.sketch.settle(self.fresh)
-        self.fresh = []
-        if not self.root.win[self.side] & self.bit:
-            self.sketch.guess(self.worth)
-        if not self.root.win[self.side] & self.bit:
+        opened, self.fresh = self.fresh, []
+        self.sketch.settle(opened)
+        if self.root.win[SURE + self.side] & self.bit:
+            return True
+        self.sketch.guess(self.worth)
+        if not self.root.win[GUESSED + self.side] & self.bit:
             return None if self.widen() else False
-        reached = self.sketch.reached(self.root, self.side, self.bit)
+        reached = self.sketch.reached(self.root, self.side, self.bit, self.sketch.guessed)
         closed = [piece for piece in reached.planes if not piece.is_open]
-        dearest = max((self.worth(piece)[0] for piece in closed), default=0)
+        dearest = max(self.worth(piece)[0] for piece in closed)
         is_dear = lambda piece: self.worth(piece)[0] >= dearest - NEARLY
         names = set()
         for piece in closed:
             if not piece.is_open and len(names) < MOST_OPENED and (is_dear(piece) or has_pawns_alone(piece)):
                 names.add(family(piece))
                 self.open_family(piece)
-        self.reached = reached
-        return None if closed else True
+        return None
 
     def widen(self) -> bool:
         """Lets the opponent have new queens beside those of the side too; tells whether that was not allowed before."""
         was_wide, self.is_wide = self.is_wide, True
+        self.sketch.forget_guesses()
         return not was_wide
 
     def worth(self, piece: Slice):
@@ -90,29 +93,29 @@ class Hunt:
 
     def run(self, until: float) -> Optional[bool]:
         """Hunts until the processor seconds are used up, or slices take too much room."""
-        self.sketch.until = until
+        self.sketch.end_at(until)
         try:
             while used() < until and len(self.book.slices) < MOST_SLICES:
                 came = self.step()
                 if came is not None:
                     return came
         except OutOfTime:
-            self.begin_anew()
+            pass
         return None
 
-    def begin_anew(self) -> None:
-        """Forgets all wins; the slices that are open stay open."""
-        for piece in self.book.slices.values():
-            piece.reset()
-        self.sketch = Sketch(self.book, self.own)
-        self.fresh = [piece for piece in self.book.slices.values() if piece.is_open]
+
+def strategy(hunt: Hunt, liked=frozenset()) -> Reached:
+    """All positions of the soonest win; slices that are liked come first."""
+    return hunt.sketch.reached(hunt.root, hunt.side, hunt.bit, hunt.sketch.sure, liked)
 
 
-def strategy(hunt: Hunt) -> Reached:
-    """All positions of the soonest win, worked out anew over all that is open."""
-    hunt.begin_anew()
-    hunt.sketch.settle(hunt.fresh)
-    return hunt.sketch.reached(hunt.root, hunt.side, hunt.bit)
+def worked_out_anew(hunt: Hunt) -> None:
+    """Finds all wins again, over all that is open: they come sooner than piece by piece."""
+    pieces = list(hunt.book.slices.values())
+    for piece in pieces:
+        piece.reset()
+    hunt.sketch = Sketch(hunt.book, hunt.own)
+    hunt.sketch.settle([piece for piece in pieces if piece.is_open])
 
 
 def favourites(reached: Reached) -> set[Slice]:
@@ -132,24 +135,21 @@ def favourites(reached: Reached) -> set[Slice]:
 
 
 def family(piece: Slice) -> tuple:
-    """The pawns where they stand, and what other men there are."""
+    """The pawns and others who stand still, on their squares, and what other men there are."""
     if piece.kept is None:
-        pawns = tuple((s, m) for s, m in piece.men if m in "Pp")
-        piece.kept = [(pawns, "".join(sorted(m for _, m in piece.men if m not in "Pp"))), None]
+        fast = tuple((s, m) for s, m in piece.men if m in "Pp" or m not in "Qq" and piece.still == (WHITE if m.isupper() else BLACK))
+        piece.kept = [(fast, "".join(sorted(m for s, m in piece.men if (s, m) not in fast))), None]
     return piece.kept[0]
+
+
+def is_contested(piece: Slice, own: int) -> bool:
+    """Are there several queens and rooks, or one of the opponent's?"""
+    heavy = [man for _, man in piece.men if man in "QRqr"]
+    return len(heavy) > 1 or any(man in ("qr", "QR")[own] for man in heavy)
 
 
 def has_pawns_alone(piece: Slice) -> bool:
     return all(man in "Pp" for _, man in piece.men)
-
-
-def count(piece: Slice, man: str) -> int:
-    return piece.key[0].count(man)
-
-
-def has_new_queen(piece: Slice, own: int, queens: int) -> bool:
-    """Has the side a queen more than at first, and the other none? Then its pawns need not move."""
-    return count(piece, "Qq"[own]) > queens and not count(piece, "qQ"[own])
 
 
 def worth(piece: Slice, own: int):

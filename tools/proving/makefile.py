@@ -26,13 +26,13 @@ def makefile(row, fen, told):
     for cell in row:
         parts.append(build_rule(cell))
     for each in told:
-        parts += ask_rules(each, fen)
+        parts.append(verdict_rule(each, fen))
     parts.append(f"clean:\n\trm -f {tables} {' '.join(answers_of(told))} *.new\n")
     return "\n".join(parts)
 
 
 def answers_of(told):
-    return [f"{each.name}.{kind}" for each in told for kind in ("check", "query", "premises")]
+    return [f"{each.name}.verdict" for each in told]
 
 
 def proof_rule(told, tables):
@@ -47,24 +47,15 @@ def behind(over):
     return "".join(f" {table_of(name)}" for name in over)
 
 
-def program(over):
-    return "$(RUN) $(ATLAS)" if over else "$(RUN) $(FREEZER)"
-
-
 def build_rule(cell):
     made, text = table_of(cell.name), text_of(cell.name)
     return (
         f"{made}: {text}{behind(cell.over)}\n"
-        f"\t{program(cell.over)} build {text} $@.new{behind(cell.over)} && mv $@.new $@\n"
+        f"\t$(RUN) {'$(ATLAS)' if cell.over else '$(FREEZER)'} build {text} $@.new{behind(cell.over)} && mv $@.new $@\n"
     )
 
 
-def ask_rules(told, fen):
-    """A file for each answer about a table."""
+def verdict_rule(told, fen):
+    """A file for what is said by one table."""
     table, over = table_of(told.name), behind(told.over)
-    yield f"{told.name}.check: {table}{over}\n\t{program(told.over)} check {table}{over} > $@\n"
-    yield f'{told.name}.query: {table}\n\t{program(told.over)} query {table} "{fen}" > $@\n'
-    yield (
-        f"{told.name}.premises: {text_of(told.name)} {table}{over}\n"
-        f"\t$(RUN) $(ATLAS) premises {text_of(told.name)}{over} > $@\n"
-    )
+    return f'{told.name}.verdict: {table}{over}\n\t$(RUN) $(ATLAS) verdict {table} "{fen}"{over} > $@\n'

@@ -1,6 +1,6 @@
 """PROOF.md: one page with the position, what is shown and what it rests on, the moves, and the sums of all files."""
 
-from proving.asking import read_query, table_of, text_of
+from proving.asking import table_of, text_of
 from proving.diagram import letters
 from proving.notation import begins_with_black, marked, number_of, numbered
 from proving.tree import paths
@@ -12,7 +12,7 @@ PICTURE = "PROOF.svg"
 def page(proof) -> str:
     """The whole page, from a Proof."""
     parts = [
-        f"# {statement(proof.shown, proof.way)}", f"![The position]({PICTURE})",
+        f"# {statement(proof.shown)}", f"![The position]({PICTURE})",
         f"```\n{letters(proof.fen)}\n```", f"`{proof.fen}`", about(proof), rests_on(proof), moves(proof),
         files(proof), again(), programs(proof),
     ]
@@ -45,43 +45,23 @@ def claimed(proof):
 
 
 def about_win(proof):
-    shown = proof.shown
-    name = shown.winner.capitalize()
-    if shown.plies is None:
-        return f"**{name} forces mate**: the opponent's bound is exact, and he is lost."
-    count = shown.plies.count
-    if shown.plies.to_mate:
-        return f"**{name} forces mate against every defence**, at the latest in ply {count} (each move of either side is one)."
-    said = (
-        f"**{name} forces mate against every defence.** Within {count} plies (each move of either side is one) it is "
-        "mate, or a capture, a promotion or another step leads into a table behind, by which he wins too."
-    )
-    if proof.longest is None:
-        return f"{said} The plies from there on are not counted."
-    parts = " + ".join(map(str, (count, *proof.longest)))
-    return (
-        f"{said} The mate comes within {parts} = {count + sum(proof.longest)} plies: those of the longest win of each "
-        "table behind are added, by its codes."
-    )
+    name, plies = proof.shown.winner.capitalize(), proof.shown.plies
+    if plies is None:
+        return f"**{name} forces mate against every defence.**"
+    return f"**{name} forces mate against every defence**, at the latest in ply {plies} (each move of either side is one)."
 
 
 def rests_on(proof):
-    """The answers of the programs, as they were printed."""
+    """The verdicts of the program, as they were printed."""
     parts = [
         "## What it rests on",
-        "`check` found each entry of each table right, and `premises` found that nothing is believed: no exit line of "
-        "any text has to be taken on trust. The laws of chess and the programs' proofs are all that is left.",
+        "`verdict` found each entry of each table right, and that nothing is believed: no exit line of any text has to be "
+        "taken on trust. The laws of chess and the programs' proofs are all that is left.",
     ]
     for told in proof.told:
-        if len(proof.told) > 1:
-            sides = [side.capitalize() for side, bound in read_query(told.query).items() if bound.is_safe]
-            do = "do" if len(sides) > 1 else "does"
-            parts.append(f"By `{table_of(told.name)}` {' and '.join(sides)} {do} not lose:")
-        program, over = ("atlas" if told.over else "freezer"), "".join(f" {table_of(name)}" for name in told.over)
+        over = "".join(f" {table_of(name)}" for name in told.over)
         parts.append("\n".join((
-            "```", f"$ {program} check {table_of(told.name)}{over}", told.check.rstrip("\n"),
-            f'$ {program} query {table_of(told.name)} "{proof.fen}"', told.query.rstrip("\n"),
-            f"$ atlas premises {text_of(told.name)}{over}", told.premises.rstrip("\n"), "```",
+            "```", f'$ atlas verdict {table_of(told.name)} "{proof.fen}"{over}', told.text.rstrip("\n"), "```",
         )))
     return "\n\n".join(parts)
 
@@ -106,7 +86,7 @@ def explained(proof):
     kept = "win" if proof.shown.winner else "hold"
     said = ["Tries, each with the answer that the tables give."]
     if proof.shown.winner:
-        said = ["The best line, as the tables play it: each table counts its own plies."]
+        said = ["The best line, as the tables play it."]
         if any(True for _ in side_lines(proof)):
             said.append("Below it other defences with a reply: all first ones, and each later one that lasts as long.")
     if any(node.is_only for line in paths(proof.root) for node in line):

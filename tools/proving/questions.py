@@ -12,7 +12,7 @@ from proving.holds import HoldSearch
 from proving.mend import first_cell
 from proving.proof import Budget, Programs, Status
 from proving.row import Row, Spot
-from proving.searching import Search, verdict
+from proving.searching import Search, both_hold, verdict
 from proving.seeds import Seeds
 from proving.state import load, save
 from proving.tables import OutOfTime, Workshop
@@ -36,6 +36,7 @@ class Question:
     seeds: Optional[Seeds] = None  # of a win that is searched from the beginning
     status: Status = Status.OPEN
     is_over: bool = False  # nothing more is found
+    is_draw: bool = False  # its tables show that both sides hold
 
     def work(self, until: float) -> Status:
         """Searches until the processor seconds are used up."""
@@ -52,7 +53,8 @@ class Question:
         except OutOfTime:
             return self.status
         last = len(row.cells) - 1
-        self.status = verdict(row, Spot(last, row.cells[last].number(position)))
+        spot = Spot(last, row.cells[last].number(position))
+        self.status, self.is_draw = verdict(row, spot), both_hold(row, spot)
         return self.status
 
 
@@ -82,7 +84,7 @@ def proves(question: Question) -> Optional[tuple[str, str]]:
 def is_answered(questions: list[Question]) -> bool:
     """Is a win shown, or are both holds, or all that was asked?"""
     shown = {proves(question) for question in questions} - {None}
-    has_both = {("w", "hold"), ("b", "hold")} <= shown
+    has_both = {("w", "hold"), ("b", "hold")} <= shown or any(question.is_draw for question in questions)
     return has_both or any(kind == "win" for _, kind in shown) or all(question.status is not Status.OPEN for question in questions)
 
 

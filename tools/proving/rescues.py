@@ -35,7 +35,7 @@ def guess_built(search, index: int) -> Built:
         row.built[name] = row.built[cell.name]
         return row.built[name]
     backs = [guess_built(search, j) for j in row.behind(index)]
-    lines = rescue_lines(cell, row.own, search.covered.get(cell.name, {}), {c.name: c for c in row.cells})
+    lines = rescue_lines(cell, row.own, search.covered.get(cell.name, {}), row.cells_behind(index))
     row.build(index, name, cell.text(lines, []), backs)
     return row.built[name]
 

@@ -9,7 +9,7 @@ from lib.chess import other
 from proving.board import FORWARD, PAWN_HITS, Position
 from proving.cells import Cell
 from proving.groups import COLOUR, Slot
-from proving.tables import HOLD, Table, Workshop, is_safe, is_win
+from proving.tables import ASKED_LAST, HOLD, Table, Workshop, is_safe, is_win
 from proving.words import SIDES, head
 
 MANY_PLIES = 3 + 2 * 10 ** 9
@@ -72,6 +72,10 @@ class Row:
                 reached.add(j)
         return sorted(reached)
 
+    def cells_behind(self, index: int) -> dict[str, Cell]:
+        """The same cells by their names."""
+        return {self.cells[j].name: self.cells[j] for j in self.behind(index)}
+
     def plain_text(self, cell: Cell) -> str:
         """The text that proves: with the one exit line that is true by the men, that a bare king mates nobody. A win
         may lie behind it, so only the text of a hold has it."""
@@ -126,15 +130,20 @@ class Row:
         return self.built[name or self.cells[spot.index].name].table.code(side, spot.number)
 
     def seen(self, spot: Spot, side: str, index: int, name: str = "") -> int:
-        """The code as it counts for a move in the table of a cell: one of a cell behind counts no plies."""
+        """The code as it counts for a move in the table of a cell: one of a cell behind counts the plies of wins alone,
+        or none."""
         if spot.index == index:
             return self.code(spot, side, name)
         code = self.code(spot, side)
-        return WON if is_win(code) else HOLD if is_safe(code) else LOST
+        if is_win(code):
+            return code if ASKED_LAST else WON
+        return HOLD if is_safe(code) else LOST
 
 
 def may_lead(cell: Cell, target: Cell) -> bool:
-    """May a move out of the cell come to a position of the other? False only where it surely may not."""
+    """May a move out of the cell come to a position of the other? False only where it surely may not, or is not to."""
+    if cell.leads is not None and target.name not in cell.leads:
+        return False
     for side in "wb":
         for kind in "PNBRQ":
             here, there = cell.ranges[side + kind], target.ranges[side + kind]

@@ -13,7 +13,7 @@ from proving.events import Event
 from proving.mend import How, Way, cheapest
 from proving.proof import Status
 from proving.row import Row, Spot
-from proving.tables import is_safe, is_win
+from proving.tables import HOLD, is_safe, is_win
 
 Kid = tuple  # a move, the position after it, and where that is: a Spot or None
 
@@ -165,3 +165,8 @@ def verdict(row: Row, spot: Spot) -> Status:
     mine, theirs = row.code(spot, row.own), row.code(spot, other(row.own))
     good, bad = (is_safe, is_win) if row.claim == "hold" else (is_win, is_safe)
     return Status.PROVED if good(mine) else Status.REFUTED if bad(theirs) else Status.OPEN
+
+
+def both_hold(row: Row, spot: Spot) -> bool:
+    """Do the plain tables show a draw there?"""
+    return all(row.code(spot, side) == HOLD for side in "wb")

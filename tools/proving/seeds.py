@@ -7,7 +7,7 @@ from typing import Optional
 from proving.board import Position
 from proving.cells import Cell
 from proving.cover import Cover
-from proving.hunt import Hunt, favourites, strategy
+from proving.hunt import Hunt, favourites, strategy, worked_out_anew
 from proving.proof import Status
 from proving.row import Row, Spot
 from proving.searching import verdict
@@ -40,12 +40,13 @@ class Seeds:
     def cells(self, hunt: Hunt) -> Optional[list[Cell]]:
         """The cells of the strategy that needs the fewest numbers, of several."""
         kings = self.position.board.index("K"), self.position.board.index("k")
+        worked_out_anew(hunt)
         reached, best = strategy(hunt), None
         for _ in range(PASSES):
             cover = Cover(hunt.root, reached, kings, self.row.own, self.limit)
             if best is None or cover.total() < best.total():
                 best = cover
-            reached = hunt.sketch.reached(hunt.root, hunt.side, hunt.bit, favourites(reached))
+            reached = strategy(hunt, favourites(reached))
         return best.cells(self.most_cells)
 
     def build(self, cells: list[Cell]) -> Status:

@@ -13,15 +13,18 @@ Key = "tuple[str, int]"  # the board without its kings, and the square that a pa
 
 
 class Slice:
-    """The planes by side to move: which positions are valid, where the attacker wins, and since when."""
+    """The planes by side to move: which positions are valid; and of the wins that are sure, then of those that are
+    guessed, where they are, where none is, and since when."""
 
     __slots__ = (
         "key", "men", "valid", "stale", "steps", "kings", "before", "kings_before", "win", "free", "layers", "is_open", "kept",
+        "still",
     )
 
-    def __init__(self, key: Key):
+    def __init__(self, key: Key, still: Optional[int] = None):
         board, target = self.key = key
         self.men = list(men_of(board))
+        self.still = still  # this side moves its king and its queens alone
         apart = APART
         for square, _ in self.men:
             apart &= ~TAKEN[square]
@@ -38,7 +41,7 @@ class Slice:
         self.reset()
 
     def reset(self) -> None:
-        self.win, self.free, self.layers = [0, 0], list(self.valid), [{}, {}]
+        self.win, self.free, self.layers = [0] * 4, 2 * list(self.valid), [{} for _ in range(4)]
 
     def has(self, position: Position) -> bool:
         return bool(self.valid[SIDES.index(position.turn)] >> bit_of(position) & 1)
@@ -66,24 +69,33 @@ def bits_of(plane: int) -> Iterator[int]:
 
 
 class Book:
-    """The slices that are known, by their keys."""
+    """The slices that are known, by their keys. Where a side has more queens than `queens` and the other none, its other
+    men need not move."""
 
-    def __init__(self):
+    def __init__(self, own: Optional[int] = None, queens: int = 0):
+        self.own, self.queens = own, queens
         self.slices: dict[Key, Slice] = {}
+        self.made: list[Slice] = []  # the same in their order
 
     def get(self, key: Key) -> Slice:
         found = self.slices.get(key)
         if found is None:
-            self.slices[key] = found = Slice(key)
+            self.slices[key] = found = Slice(key, self.still(key[0]))
+            self.made.append(found)
         return found
 
-    def open(self, piece: Slice, frozen: Optional[int] = None) -> None:
-        """Finds the moves from the slice; a side that is frozen moves its king and its queens alone."""
+    def still(self, board: str) -> Optional[int]:
+        if self.own is None or board.count("Qq"[self.own]) <= self.queens or "qQ"[self.own] in board:
+            return None
+        return self.own
+
+    def open(self, piece: Slice) -> None:
+        """Finds the moves from the slice."""
         piece.is_open = True
         for side in (WHITE, BLACK):
             if not piece.valid[side]:
                 continue
-            for key, plane in steps(piece, side, frozen == side):
+            for key, plane in steps(piece, side, piece.still == side):
                 after = self.get(key)
                 piece.steps[side].append((after, plane))
                 after.before[side].append((piece, plane))

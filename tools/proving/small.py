@@ -23,8 +23,12 @@ def total(cells: list[Cell]) -> int:
     return sum(cell.size for cell in cells)
 
 
-def make_small(row: Row, position: Position, tell) -> Row:
-    """A row that shows the same, perhaps with less."""
+def is_proved(row: Row, spot: Spot) -> bool:
+    return verdict(row, spot) is Status.PROVED
+
+
+def make_small(row: Row, position: Position, tell, stands=is_proved) -> Row:
+    """A row of which the same still stands, perhaps with less."""
     until = row.shop.taken() * SHARE + row.shop.taken()
     kept, tries = row, 0
     refused: set[str] = set()
@@ -34,7 +38,7 @@ def make_small(row: Row, position: Position, tell) -> Row:
             return kept
         words, cells = trial
         tries += 1
-        made = attempt(kept, cells, position, f"smaller{tries}")
+        made = attempt(kept, cells, position, f"smaller{tries}", stands)
         refused.add(words)
         if made is not None:
             tell(f"smaller: {words}; {total(made.cells)} numbers in {len(made.cells)} tables")
@@ -48,8 +52,8 @@ def is_worth(row: Row, cells: list[Cell], until: float) -> bool:
     return row.shop.taken() + total(cells) * MICROSECONDS < until
 
 
-def attempt(row: Row, cells: list[Cell], position: Position, folder: str):
-    """The row of these cells if it still shows the claim, built in a folder of its own; else None."""
+def attempt(row: Row, cells: list[Cell], position: Position, folder: str, stands=is_proved):
+    """The row of these cells if the same stands, built in a folder of its own; else None."""
     place = os.path.join(row.shop.home, folder)
     os.makedirs(place, exist_ok=True)
     made = replace(row, cells=cells, built=dict(row.built), shop=row.shop.at(place))
@@ -61,7 +65,7 @@ def attempt(row: Row, cells: list[Cell], position: Position, folder: str):
         made.ensure(index)
     except (OutOfTime, ProgramFailed):
         return None
-    return made if verdict(made, Spot(index, number)) is Status.PROVED else None
+    return made if stands(made, Spot(index, number)) else None
 
 
 def trials(row: Row) -> Iterator[tuple[str, list[Cell]]]:

@@ -15,6 +15,9 @@ from proving.proof import Programs
 HEAD, CODE = 16, 4
 OUT_OF_TIME = (-9, -24)  # statuses of a program that the limit of its processor time has ended
 SIDES = "wb"
+# Does `atlas` ask the lines behind `exit unknown if always` where no table behind has the position, and does it count
+# the plies of wins in these tables?
+ASKED_LAST = True
 
 
 class OutOfTime(Exception):

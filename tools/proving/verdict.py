@@ -1,14 +1,12 @@
-"""What the files of a folder show of a position, in chess words: worded from the answers of `check`, `query`
-and `premises` alone, never from what the search believes."""
+"""What the files of a folder show of a position, in chess words: worded from the answers of `atlas verdict` alone,
+never from what the search believes."""
 
 import enum
 from collections.abc import Iterable
 from dataclasses import dataclass
 from typing import Optional
 
-from proving.asking import SIDES, Asking, NothingShown, Told, read_premises, read_query
-
-EXACT = ("exact but for plies", "exact")
+from proving.asking import SIDES, WINS, Asking, NothingShown, Told, read_query, read_verdict
 
 
 class Outcome(enum.Enum):
@@ -20,19 +18,12 @@ class Outcome(enum.Enum):
 
 
 @dataclass(frozen=True)
-class Plies:
-    """Within how many plies a win comes: to mate, or else to mate or to a move into a table behind."""
-
-    count: int
-    to_mate: bool
-
-
-@dataclass(frozen=True)
 class Shown:
-    """What is true of a position in chess: who forces mate, and which sides are not mated by force."""
+    """What is true of a position in chess: who forces mate, within how many plies where that is known, and which sides
+    are not mated by force."""
 
     winner: Optional[str] = None
-    plies: Optional[Plies] = None
+    plies: Optional[int] = None
     safe: frozenset = frozenset()
 
     @property
@@ -44,25 +35,26 @@ def opponent(side):
     return SIDES[1 - SIDES.index(side)]
 
 
-def shown_by(told: Told) -> Shown:
-    """What the answers about one table show."""
-    bounds = read_query(told.query)
-    believed, worth = read_premises(told.premises, len(told.over))
-    if believed or "true if believed" in worth.values():
+def shown_by(told: Told, fen) -> Shown:
+    """What the verdict by one table shows."""
+    said, believed = read_verdict(told.text, fen)
+    if believed:
         raise NothingShown(f"{told.name} rests on what is believed: {'; '.join(believed)}")
-    return join(said_of(side, bounds[side], worth[side], not told.over) for side in SIDES)
+    if won := WINS.fullmatch(said):
+        return Shown(won[1], int(won[2]) if won[2] else None, frozenset({won[1]}))
+    return Shown(safe=safe_by(said))
 
 
-def said_of(side, bound, worth, is_alone) -> Shown:
-    """What the bound of one side shows, where nothing is believed. With no table behind and no believed line no
-    exit is won, so each win ends in mate; `exact` counts plies to mate too."""
-    if bound.kind == "wins":
-        return Shown(side, Plies(bound.plies, is_alone or worth == "exact"), frozenset({side}))
-    if bound.kind == "holds":
-        return Shown(safe=frozenset(SIDES) if worth in EXACT else frozenset({side}))
-    if worth in EXACT:
-        return Shown(opponent(side), None, frozenset({opponent(side)}))
-    return Shown()
+def safe_by(said):
+    """The sides that do not lose by these words, where nobody wins."""
+    if said == "draw":
+        return frozenset(SIDES)
+    if said == "not shown":
+        return frozenset()
+    side, _, rest = said.partition(" ")
+    if side not in SIDES or rest != "does not lose":
+        raise NothingShown(f"verdict says what this page does not know: {said}")
+    return frozenset({side})
 
 
 def join(found: Iterable[Shown]) -> Shown:
@@ -72,7 +64,7 @@ def join(found: Iterable[Shown]) -> Shown:
         if winner and shown.winner not in (None, winner):
             raise NothingShown("the answers contradict each other: both sides win")
         winner, safe = winner or shown.winner, safe | shown.safe
-        plies = min(filter(None, (plies, shown.plies)), key=lambda p: (not p.to_mate, p.count), default=None)
+        plies = min((count for count in (plies, shown.plies) if count is not None), default=None)
     if winner and opponent(winner) in safe:
         raise NothingShown("the answers contradict each other: a side wins, and the other does not lose")
     return Shown(winner, plies, safe)
@@ -88,13 +80,13 @@ def asked_of(row, fen, asking):
 
 
 def ask(row, fen, programs, folder) -> tuple[tuple, list[Told], Shown]:
-    """The cells that are needed, the answers about the tables that have the position, each checked with all behind
-    it, and what they show together. A table that bounds neither side there is not checked: it shows nothing."""
+    """The cells that are needed, the verdicts by the tables that have the position, each checked with all behind it,
+    and what they show together. A table that bounds neither side there is not checked: it shows nothing."""
     asking = Asking(programs, folder)
     asked = asked_of(row, fen, asking)
     bounding = [cell for cell in asked if has_bound(asking.query(cell.name, cell.over, fen))]
     told = [asking.told(cell.name, cell.over, fen) for cell in bounding]
-    return needed_by(bounding or asked, row), told, join(map(shown_by, told))
+    return needed_by(bounding or asked, row), told, join(shown_by(each, fen) for each in told)
 
 
 def has_bound(query):
@@ -120,10 +112,10 @@ def judge(claim, side, shown: Shown) -> Outcome:
     return Outcome.PROVED if proved else Outcome.REFUTED if refuted else Outcome.NOT_SHOWN
 
 
-def statement(shown: Shown, way="") -> str:
-    """What is shown, in chess words. `way` says where the best line ends whose plies do not count to mate."""
+def statement(shown: Shown) -> str:
+    """What is shown, in chess words."""
     if shown.winner:
-        return f"{shown.winner.capitalize()} wins{within(shown.plies, way)}"
+        return f"{shown.winner.capitalize()} wins{within(shown.plies)}"
     if shown.is_draw:
         return "Draw"
     if shown.safe:
@@ -131,24 +123,22 @@ def statement(shown: Shown, way="") -> str:
     return "Not shown"
 
 
-def within(plies: Optional[Plies], way) -> str:
+def within(plies: Optional[int]) -> str:
     if plies is None:
         return ""
-    if plies.to_mate:
-        return f" (mate within {counted(plies.count)})" if plies.count else " (it is mate)"
-    return f" (within {counted(plies.count)} {way or 'to mate or into another table'})"
+    return f" (mate within {counted(plies)})" if plies else " (it is mate)"
 
 
 def counted(plies):
     return f"{plies} pl{'y' if plies == 1 else 'ies'}"
 
 
-def verdict(outcome: Outcome, shown: Shown, way="", gap="") -> str:
+def verdict(outcome: Outcome, shown: Shown, gap="") -> str:
     """The one line. `gap` says which position is open, and counts only where the claim is not shown."""
     if outcome is Outcome.PROVED:
-        said = statement(shown, way)
+        said = statement(shown)
         return f"{said}: {gap}" if gap and said.endswith("open") else said
     if outcome is Outcome.REFUTED:
-        return f"Refuted: {statement(shown, way)}"
-    also = f"; shown: {statement(shown, way)}" if shown.safe else ""
+        return f"Refuted: {statement(shown)}"
+    also = f"; shown: {statement(shown)}" if shown.safe else ""
     return f"Not shown{': ' + gap if gap else ''}{also}"

@@ -120,8 +120,7 @@ class WinSearch(Search):
         """Builds the table of guesses of the cell, and gives its name."""
         cell = self.row.cells[index]
         lines = guess_lines(
-            cell, self.own, tier, self.covered.get(cell.name, {}), self.barred.get(cell.name, []),
-            {c.name: c for c in self.row.cells},
+            cell, self.own, tier, self.covered.get(cell.name, {}), self.barred.get(cell.name, []), self.row.cells_behind(index),
         )
         name = f"{cell.name}.guess"
         self.row.build(index, name, cell.text(lines, []))

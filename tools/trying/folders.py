@@ -46,7 +46,7 @@ def text_of(*path):
 
 def see_page(name, fen, line, checks):
     page = text_of(name, "PROOF.md")
-    for part in (line.partition(": ")[2], f"`{fen}`", "believed 0", "exact ", "(PROOF.svg)", " to move"):
+    for part in (line.partition(": ")[2], f"`{fen}`", "believed 0", "$ atlas verdict ", "(PROOF.svg)", " to move"):
         checks.see(f"{name}: {part!r} on the page", part in page)
     for word in text_of(name, "SHA256SUMS").split():
         checks.see(f"{name}: {word} on the page", word in page)

@@ -1,89 +1,79 @@
-"""What each pair of answers shows, held against a table that was worked out from docs/users/guide.md and
-docs/users/rules.md; and the verdicts on small endings."""
+"""What each answer of `verdict` shows, held against a table that was worked out from docs/users/guide.md and
+docs/users/commands.md; and the verdicts on small endings."""
 
 from proving.asking import NothingShown, Told
 from proving.proof import Status
-from proving.verdict import judge, shown_by, statement
+from proving.verdict import join, judge, shown_by, statement
 from trying.endings import (
     BEFORE_THE_PAWN, BOTH_HOLD, CORNER, LOCKED, MATE_IN_ONE, PAWN, PROMOTES, QUEEN, ROOK, STEPS_ASIDE, Handing, prove,
 )
 
-LOWER, RENOUNCED = "true, exits undecided", "true, moves renounced"
-OUTCOMES, EXACT, BELIEVED = "exact but for plies", "exact", "true if believed"
 NOTHING = "nothing"
-# White's bound and Black's, what premises says of each, with how many tables behind; and what that shows.
-COMBINATIONS = (
-    ("holds", "holds", LOWER, LOWER, 0, "Draw"),
-    ("holds", "holds", RENOUNCED, RENOUNCED, 2, "Draw"),
-    ("wins within 5", "none", LOWER, LOWER, 0, "White wins (mate within 5 plies)"),
-    ("wins within 5", "none", RENOUNCED, LOWER, 0, "White wins (mate within 5 plies)"),
-    ("wins within 1", "none", EXACT, EXACT, 0, "White wins (mate within 1 ply)"),
-    ("wins within 0", "none", LOWER, LOWER, 0, "White wins (it is mate)"),
-    ("wins within 5", "none", LOWER, LOWER, 1, "White wins (within 5 plies to mate or into another table)"),
-    ("wins within 5", "none", OUTCOMES, OUTCOMES, 1, "White wins (within 5 plies to mate or into another table)"),
-    ("none", "wins within 8", LOWER, EXACT, 3, "Black wins (mate within 8 plies)"),
-    ("holds", "none", LOWER, LOWER, 0, "White does not lose; whether he wins is open"),
-    ("holds", "none", RENOUNCED, LOWER, 0, "White does not lose; whether he wins is open"),
-    ("none", "holds", LOWER, LOWER, 1, "Black does not lose; whether he wins is open"),
-    ("none", "none", LOWER, LOWER, 0, "Not shown"),
-    ("none", "none", RENOUNCED, LOWER, 4, "Not shown"),
-    # An exact hold is a draw, and with an exact `none` a side is lost, whatever the other one has renounced.
-    ("holds", "none", OUTCOMES, RENOUNCED, 1, "Draw"),
-    ("none", "holds", RENOUNCED, EXACT, 0, "Draw"),
-    ("none", "none", RENOUNCED, OUTCOMES, 1, "White wins"),
-    ("holds", "none", RENOUNCED, EXACT, 0, "White wins"),
-    ("none", "none", EXACT, LOWER, 0, "Black wins"),
-    # What contradicts itself, or rests on a belief, shows nothing.
-    ("none", "none", EXACT, EXACT, 0, NOTHING),
-    ("wins within 2", "wins within 2", LOWER, LOWER, 0, NOTHING),
-    ("wins within 2", "holds", LOWER, LOWER, 0, NOTHING),
-    ("holds", "none", EXACT, EXACT, 0, NOTHING),
-    ("holds", "holds", BELIEVED, BELIEVED, 0, NOTHING),
-    ("holds", "holds", "likely", LOWER, 0, NOTHING),
-    ("hopes", "none", LOWER, LOWER, 0, NOTHING),
+# The words of `verdict` by one table or by several, and what these show.
+SHOWN = (
+    (("draw",), "Draw"),
+    (("white wins, mate within 5",), "White wins (mate within 5 plies)"),
+    (("white wins, mate within 1",), "White wins (mate within 1 ply)"),
+    (("white wins, mate within 0",), "White wins (it is mate)"),
+    (("black wins, mate within 1200",), "Black wins (mate within 1200 plies)"),
+    (("white wins",), "White wins"),
+    (("black wins",), "Black wins"),
+    (("white does not lose",), "White does not lose; whether he wins is open"),
+    (("black does not lose",), "Black does not lose; whether he wins is open"),
+    (("not shown",), "Not shown"),
+    ((), "Not shown"),
+    (("white does not lose", "black does not lose"), "Draw"),
+    (("white does not lose", "white does not lose"), "White does not lose; whether he wins is open"),
+    (("white does not lose", "not shown"), "White does not lose; whether he wins is open"),
+    (("white wins", "white wins, mate within 7", "white wins, mate within 9"), "White wins (mate within 7 plies)"),
+    (("white does not lose", "white wins, mate within 3"), "White wins (mate within 3 plies)"),
+    # What contradicts itself, or is said by no page, shows nothing.
+    (("white wins", "black wins"), NOTHING),
+    (("white wins, mate within 2", "black does not lose"), NOTHING),
+    (("draw", "black wins"), NOTHING),
+    (("white hopes",), NOTHING),
+    (("white wins, mate within",), NOTHING),
+    (("white wins within 5",), NOTHING),
+    (("red does not lose",), NOTHING),
+    (("",), NOTHING),
 )
 # What is shown, the claim, its side, and the status of the call.
 JUDGED = (
-    (("holds", "holds"), None, None, 0), (("none", "none"), None, None, 3),
-    (("holds", "none"), None, "black", 0),
-    (("holds", "holds"), "draw", None, 0), (("holds", "none"), "draw", None, 3), (("wins within 3", "none"), "draw", None, 1),
-    (("holds", "none"), "hold", "white", 0), (("holds", "none"), "hold", "black", 3), (("holds", "none"), "win", "black", 1),
-    (("holds", "none"), "win", "white", 3), (("holds", "holds"), "win", "white", 1), (("holds", "holds"), "hold", "black", 0),
-    (("wins within 3", "none"), "win", "white", 0), (("wins within 3", "none"), "hold", "white", 0),
-    (("wins within 3", "none"), "win", "black", 1), (("wins within 3", "none"), "hold", "black", 1),
-    (("none", "none"), "win", "black", 3), (("none", "none"), "draw", None, 3),
+    ("draw", None, None, 0), ("not shown", None, None, 3), ("white does not lose", None, "black", 0),
+    ("draw", "draw", None, 0), ("white does not lose", "draw", None, 3), ("white wins", "draw", None, 1),
+    ("white does not lose", "hold", "white", 0), ("white does not lose", "hold", "black", 3),
+    ("white does not lose", "win", "black", 1), ("white does not lose", "win", "white", 3),
+    ("draw", "win", "white", 1), ("draw", "hold", "black", 0),
+    ("white wins", "win", "white", 0), ("white wins", "hold", "white", 0), ("white wins", "win", "black", 1),
+    ("white wins", "hold", "black", 1), ("not shown", "win", "black", 3), ("not shown", "draw", None, 3),
 )
 
 
-def told_of(white, black, worth_of_white=LOWER, worth_of_black=LOWER, backs=0, believed=()):
-    """Answers of the programs, as they print them."""
-    lines = [f"back {place}" for place in range(1, backs + 1)] + ["rules", *believed, f"believed {len(believed)}"]
-    premises = [*lines, f"white {worth_of_white}", f"black {worth_of_black}", ""]
-    names = tuple(f"c{place:02d}" for place in range(1, backs + 1))
-    return Told("last", names, "exact 8\n", f"white {white}\nblack {black}\n", "\n".join(premises))
+def told_of(said, believed=()):
+    """The answer of `verdict`, as it is printed."""
+    return Told("last", (), "\n".join((MATE_IN_ONE, said, *believed, f"believed {len(believed)}", "")))
 
 
-def shown_or_nothing(told):
+def shown_or_nothing(*told):
     try:
-        return statement(shown_by(told))
+        return statement(join(shown_by(each, MATE_IN_ONE) for each in told))
     except NothingShown:
         return NOTHING
 
 
 def see_combinations(checks):
-    for *answers, wanted in COMBINATIONS:
-        checks.same(f"what {answers} shows", shown_or_nothing(told_of(*answers)), wanted)
-    believed = ("line 6 believed 2k5/8/1K6/8/8/8/8/7R w - - 0 1",)
-    checks.same("a believed line", shown_or_nothing(told_of("holds", "holds", believed=believed)), NOTHING)
-    for text in ("", "white holds\n", "black holds\nwhite holds\n", "white holds\nblack holds\nmore\n"):
-        told = Told("last", (), "exact 8\n", text, told_of("holds", "holds").premises)
-        checks.same(f"the query {text!r}", shown_or_nothing(told), NOTHING)
-    for text in ("", "believed 0\n", "rules\nbelieved 0\nwhite exact\n", told_of("holds", "holds", backs=1).premises):
-        told = Told("last", (), "exact 8\n", "white holds\nblack holds\n", text)
-        checks.same(f"the premises {text!r}", shown_or_nothing(told), NOTHING)
-    for bounds, claim, side, status in JUDGED:
-        outcome = judge(claim, side, shown_by(told_of(*bounds)))
-        checks.same(f"{bounds} for {claim} of {side}", outcome.value, status)
+    for words, wanted in SHOWN:
+        checks.same(f"what {words} shows", shown_or_nothing(*map(told_of, words)), wanted)
+    believed = ("table line 6 believed 2k5/8/1K6/8/8/8/8/7R w - - 0 1",)
+    checks.same("a believed line", shown_or_nothing(told_of("draw", believed)), NOTHING)
+    for text in (
+        "", "draw\n", f"{MATE_IN_ONE}\ndraw\n", f"{STEPS_ASIDE}\ndraw\nbelieved 0\n", f"{MATE_IN_ONE}\ndraw\nbelieved 1\n",
+        f"{MATE_IN_ONE}\ndraw\nmore\nbelieved 0\n", f"{MATE_IN_ONE}\ndraw\nbelieved 0\nmore\n", f"{MATE_IN_ONE}\ndraw\nbelieved 0",
+    ):
+        checks.same(f"the verdict {text!r}", shown_or_nothing(Told("last", (), text)), NOTHING)
+    for said, claim, side, status in JUDGED:
+        outcome = judge(claim, side, shown_by(told_of(said), MATE_IN_ONE))
+        checks.same(f"{said} for {claim} of {side}", outcome.value, status)
 
 
 def see_verdicts(programs, checks):
@@ -92,7 +82,7 @@ def see_verdicts(programs, checks):
     open_end = Handing(ROOK, status=Status.PROVED, open_at=("b8c8",), open_fen="anything")
     lost = "2k5/8/1K6/8/8/8/8/7R w - - 0 1"
     holds = "White does not lose; whether he wins is open"
-    mate, queen = "White wins (mate within 1 ply)", "White wins (within 1 ply to a new queen in the best line)"
+    mate = "White wins (mate within 1 ply)"
     for number, (fen, searching, words, status, line) in enumerate((
         (MATE_IN_ONE, rook, (), 0, mate),
         (MATE_IN_ONE, rook, ("--claim", "win", "--for", "white"), 0, mate),
@@ -100,7 +90,6 @@ def see_verdicts(programs, checks):
         (MATE_IN_ONE, rook, ("--claim", "hold", "--for", "black"), 1, f"Refuted: {mate}"),
         (STEPS_ASIDE, open_end, (), 3, f"Not shown: after 1.. Kc8 the position {lost} is open"),
         (STEPS_ASIDE, rook, ("--claim", "win", "--for", "white"), 3, "Not shown"),
-        (PROMOTES, promotes, (), 0, queen),
         (BEFORE_THE_PAWN, corner, (), 0, holds),
         (BEFORE_THE_PAWN, corner, ("--claim", "hold", "--for", "white"), 0, holds),
         (BEFORE_THE_PAWN, corner, ("--claim", "win", "--for", "black"), 1, f"Refuted: {holds}"),
@@ -112,3 +101,7 @@ def see_verdicts(programs, checks):
     )):
         given = prove(programs, searching, fen, "--out", f"proof{number}", *words)[:2]
         checks.same(f"{fen} {' '.join(words)}", given, (status, f"{fen}: {line}"))
+    # The mate comes at the third ply; a program that does not count wins in tables behind says that White wins.
+    status, out = prove(programs, promotes, PROMOTES, "--out", "promotes")[:2]
+    checks.same(f"the status of {PROMOTES}", status, 0)
+    checks.see(out, out in (f"{PROMOTES}: White wins{within}" for within in ("", " (mate within 3 plies)")))
