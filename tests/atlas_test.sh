@@ -39,7 +39,6 @@ test_no_file_stands_twice_among_the_names_of_atlas() {
     refused_by_atlas ask A ./A
     refused_by_atlas premises A one two link
     refused_by_atlas build A ./A
-    refused_by_atlas each one FEN link
     refused_by_atlas ask one two ./two
     is "$(cat "$FAKE_LOG")" "" "checks: the program is not built for this"
 }

@@ -111,7 +111,7 @@ test_a_file_of_another_kind_is_told() {
     is "$err" "" "a plain table"
     told 5 atlas query older 'a b c d'
     is "$err" "atlas: older is a table of an older atlas build: build it again over the same tables" "an older table"
-    told 5 atlas each former 'a b c d' plain
+    told 5 atlas each former 'a b c d'
     has "$err" "former is a table of the former format: freezer migrate OLD NEW"
     told 5 freezer play leaning 'a b c d' white
     is "$err" "freezer: leaning is a table of atlas build: $(line_of atlas play)" "a table over others"

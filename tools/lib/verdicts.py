@@ -1,7 +1,7 @@
 """What is shown of a position, and what is believed for it: what `verdict` prints, read from docs/users/commands.md."""
 
 from lib.chess import write_fen
-from lib.game import HOLD, SIDES, is_win
+from lib.game import HOLD, SIDES, Back, is_win
 from lib.premises import bases_of
 
 
@@ -19,7 +19,8 @@ def verdict_on(table, number):
 
 def won(table, side, code):
     """The verdict where this side alone wins."""
-    return f"{side} wins, mate within {code // 2 - 1}" if table.game.counts(side) else f"{side} wins"
+    counts = table.game.counts(side) and (not table.leans or Back(table.game, table.codes).counts(side))
+    return f"{side} wins, mate within {code // 2 - 1}" if counts else f"{side} wins"
 
 
 def beliefs(backs, table):

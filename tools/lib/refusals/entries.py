@@ -251,7 +251,7 @@ def counted():
         plies, value = at5 // 2 - 1, f"white wins {told}" if told else "white wins"
         yield Case("atlas", ("build", "A", "new", "n.t"), files, 0, "built 8\n", says, made={"new": over})
         yield Case("atlas", ("check", "t", "n.t"), files, 0, "exact 8 over 2\n", says)
-        mate = f", mate within {plies}" if told else ""
+        mate = f", mate within {plies}" if told and plies <= 1000 else ""
         believed = "back 1 line 5 believed 2k5/8/1K6/8/8/8/8/R7 b - - 0 1\nbelieved 1\n"
         verdict = f"{OPEN_IN_A}\nwhite wins{mate}\n{believed}"
         yield Case("atlas", ("verdict", "t", OPEN_IN_A, "n.t"), files, 0, verdict, says)

@@ -137,7 +137,7 @@ def without_backs():
         (("query", "A.t", IN_A), BOUNDS, b"", {}), (("query", "L.t", IN_A), BOUNDS, b"", {}),
         (("line", "A.t", IN_A, "white"), LINE_IN_A, b"", {}),
         (("play", "A.t", IN_A, "white"), SESSION_IN_A, SAID_IN_A, {}), (("report", "A.t"), REPORT_OF_A, b"", {}),
-        (("each", "A.t", OPEN_IN_A), "Ka8 white wins within 1, black none\nKc8 exit unknown\n", b"", {}),
+        (("each", "A.t", OPEN_IN_A), "Kc8 exit unknown\nKa8 white wins within 1, black none\n", b"", {}),
         (("ask", "A.t", "N.t"), "white wins within 1, black fails within 1\noutside\ninput ended\n",
          f"{MATE_IN_ONE}\n2k5/8/1K6/8/8/8/8/7R w - - 0 1\n".encode(), {}),
         (("check", "A.t", "N.t"), "exact 8 over 2\n", b"", {}),
