@@ -87,11 +87,14 @@ def play_games(programs: dict[str, str], folder: str, checks: Checks):
     with Engine(programs, zugzwang) as engine:
         see_order(programs, engine, zugzwang, ZUGZWANG, checks)
     back = build(programs, "pawn_back", folder)
-    with Engine(programs, build(programs, "pawn", folder, back), back) as engine:
+    pawn = build(programs, "pawn", folder, back)
+    with Engine(programs, pawn, back) as engine:
+        plies = read_bound(told(programs["atlas"], "query", pawn, PAWN)[0]).plies
         moves = play(engine, PAWN)
-        checks.same("a pawn's win, through its promotion", end_of(programs, PAWN, moves), "mate")
+        checks.same("a pawn's win has its plies, through its promotion", len(moves), plies)
+        checks.same("and ends in mate behind it", end_of(programs, PAWN, moves), "mate")
         told_first = engine.ask(f"position fen {PAWN}", "go infinite", "stop")
-        checks.see("counted to the table behind", "score cp 19999 " in firsts(told_first)[0])
+        checks.see("counted to the mate", f"score mate {(plies + 1) // 2} " in firsts(told_first)[0])
 
 
 def time_large(programs: dict[str, str], folder: str, checks: Checks):
