@@ -1,6 +1,7 @@
 -- Other crates cite the module Lemmas alone.
 pub mod Lemmas
 mod Tables
+mod Attacked
 mod Gather
 mod Reaching
 mod Men

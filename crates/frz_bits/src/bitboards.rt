@@ -12,7 +12,7 @@ use super::lanes::{cells_equal, cells_from, cells_unlike};
 use super::rays::seen;
 use super::sets::{between, bishop_lines, king_set, knight_set, pawn_set, rook_lines};
 use super::ways::{queen_lines, reaching_set};
-use super::word::{both, contains, next_square, replaced, with_square};
+use super::word::{both, contains, either, next_square, replaced, with_square};
 use frz_board::{Colour, Kind, Man, Position, Square, cell_of};
 use std::marker::Model;
 use std::simd::prelude::*;
@@ -278,6 +278,30 @@ impl Bitboards {
             n = a.number() + 1;
         }
         false
+    }
+
+    /// The squares that the man on `a` attacks, and none if it is empty.
+    fn attacked_from(&self, a: Square) -> u64
+        ensures { (b : ℕ) → b < 64 → has_square result b ≡ attacks self.now a b }
+    {
+        match self.man(a) {
+            None => 0,
+            Some(man) => self.reached(man, a, u64::MAX),
+        }
+    }
+
+    /// The squares that a man of the side `by` attacks.
+    pub fn attacked(&self, by: Colour) -> u64
+        ensures { result ≡ set_of (λ s. is_attacked self.now s by) }
+    {
+        let men = self.side(by);
+        let mut word = 0;
+        let mut n = 0;
+        while let Some(a) = next_square(men, n) {
+            word = either(word, self.attacked_from(a));
+            n = a.number() + 1;
+        }
+        word
     }
 
     /// Does a man of this colour and kind stand on the square?

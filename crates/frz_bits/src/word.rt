@@ -1,6 +1,6 @@
 //! Words of 64 bits as sets of squares, read and written square by square.
 
-ghost use Rattle.std.specs.Prelude.{ℕ, ◌≡◌, ◌&&◌, not, ◌==◌, ◌+◌, ◌≤◌, ◌<◌, ◌^◌, MatchOption, if◌then◌else◌};
+ghost use Rattle.std.specs.Prelude.{ℕ, ◌≡◌, ◌&&◌, ◌||◌, not, ◌==◌, ◌+◌, ◌≤◌, ◌<◌, ◌^◌, MatchOption, if◌then◌else◌};
 ghost use Rattle.frz_squares.specs.SquareSets.{has_square};
 ghost use Rattle.frz_bits.specs.Words.{HasNoneFrom, IsNext};
 
@@ -49,6 +49,13 @@ pub fn both(word: u64, other: u64) -> u64
     ensures { (k : ℕ) → k < 64 → has_square result k ≡ (has_square word k && has_square other k) }
 {
     word & other
+}
+
+/// The squares that are in one of the words.
+pub fn either(word: u64, other: u64) -> u64
+    ensures { (k : ℕ) → k < 64 → has_square result k ≡ (has_square word k || has_square other k) }
+{
+    word | other
 }
 
 /// The first square of the word whose number is `n` or above, and `None` where there is none.

@@ -3,17 +3,18 @@
 ghost use Rattle.std.specs.Prelude.{Contains, ◌↔◌, ◌≡◌, ◌+◌, ◌≤◌, ◌++◌, ◌∷◌, [], length, filter, true, false, ◌&&◌, Some};
 ghost use Rattle.std.specs.List.Sorted.{IsStrictlySortedBy};
 ghost use Rattle.arrayvec.specs.ArrayVec.{array_vec_len};
+ghost use Rattle.frz_board.specs.Attacks.{is_attacked};
 ghost use Rattle.frz_board.specs.Boards.{man_on, holds};
-ghost use Rattle.frz_board.specs.Men.{same_colour, is_pawn};
+ghost use Rattle.frz_board.specs.Men.{other_of, same_colour, is_pawn};
 ghost use Rattle.frz_board.specs.Moving.{Step, IsStep, is_promotion, step_cmp};
 ghost use Rattle.frz_fide.specs.Legal.{is_legal, can_go, goes, is_last};
 ghost use Rattle.frz_squares.specs.SquareSets.{has_square, set_of};
-ghost use Rattle.frz_fide.specs.Exposing.{may_expose as man_may_expose, without as board_without};
+ghost use Rattle.frz_fide.specs.Exposing.{is_king, may_expose as man_may_expose, without as board_without};
 ghost use Rattle.frz_fide.specs.Valid.{IsValid};
 ghost use Rattle.frz_fide.specs.Listing.{legal_moves_of};
 ghost use Rattle.frz_fide.specs.SquareBySquare.{legal_between, legal_from, legal_by_squares, chosen};
 
-use super::exposing::{keeps_safe, may_expose};
+use super::exposing::{barred, keeps_safe, may_expose};
 use super::ways::open_ways;
 use arrayvec::ArrayVec;
 use frz_bits::{Bitboards, move_set, next_square, without};
@@ -26,23 +27,17 @@ pub type MoveList = ArrayVec<Move, 1024>;
 
 /// Adds a move that is legal apart from the king's safety, if the king is safe after it.
 #[tactic(auto, unfolding(crate::specs::Legal::is_legal))]
-fn add_if_safe(
-    p: &Bitboards,
-    man: Man,
-    m: Move,
-    bare: &Bitboards,
-    exposing: bool,
-    list: &mut MoveList,
-)
+fn add_if_safe(p: &Bitboards, man: Man, m: Move, barred: u64, exposing: bool, list: &mut MoveList)
     requires valid { IsValid p.now }
     requires man { man_on p.now m.from ≡ Some man }
     requires can { can_go p.now m ≡ true }
-    requires bare { bare.now ≡ board_without p.now m.from }
+    requires barred { is_king man.kind ≡ true → barred
+        ≡ set_of (λ s. is_attacked (board_without p.now m.from) s (other_of p.now.turn)) }
     requires exposing { exposing ≡ man_may_expose p.now man m.from }
     requires room { array_vec_len list.old + length (filter (is_legal p.now) (m ∷ [])) ≤ 1024 }
     ensures { list.new.items ≡ list.old.items ++ filter (is_legal p.now) (m ∷ []) }
 {
-    if keeps_safe(p, man, m, bare, exposing) {
+    if keeps_safe(p, man, m, barred, exposing) {
         list.push(m);
     }
 }
@@ -66,13 +61,14 @@ fn add_choices(
     man: Man,
     from: Square,
     to: Square,
-    bare: &Bitboards,
+    barred: u64,
     exposing: bool,
     list: &mut MoveList,
 )
     requires valid { IsValid p.now }
     requires man { man_on p.now from ≡ Some man }
-    requires bare { bare.now ≡ board_without p.now from }
+    requires barred { is_king man.kind ≡ true → barred
+        ≡ set_of (λ s. is_attacked (board_without p.now from) s (other_of p.now.turn)) }
     requires exposing { exposing ≡ man_may_expose p.now man from }
     requires queen { can_go p.now (record { from = from; to = to; promo = Some Kind.Queen })
         ≡ true }
@@ -88,7 +84,7 @@ fn add_choices(
         p,
         man,
         promotion(from, to, Kind::Queen),
-        bare,
+        barred,
         exposing,
         list,
     );
@@ -96,7 +92,7 @@ fn add_choices(
         p,
         man,
         promotion(from, to, Kind::Rook),
-        bare,
+        barred,
         exposing,
         list,
     );
@@ -104,7 +100,7 @@ fn add_choices(
         p,
         man,
         promotion(from, to, Kind::Bishop),
-        bare,
+        barred,
         exposing,
         list,
     );
@@ -112,7 +108,7 @@ fn add_choices(
         p,
         man,
         promotion(from, to, Kind::Knight),
-        bare,
+        barred,
         exposing,
         list,
     );
@@ -133,7 +129,7 @@ fn add_between(
     man: Man,
     from: Square,
     to: Square,
-    bare: &Bitboards,
+    barred: u64,
     exposing: bool,
     list: &mut MoveList,
 )
@@ -142,16 +138,17 @@ fn add_between(
     requires own { same_colour man.colour p.now.turn ≡ true }
     requires free { holds p.now p.now.turn to ≡ false }
     requires way { goes p.now man.colour man.kind from to ≡ true }
-    requires bare { bare.now ≡ board_without p.now from }
+    requires barred { is_king man.kind ≡ true → barred
+        ≡ set_of (λ s. is_attacked (board_without p.now from) s (other_of p.now.turn)) }
     requires exposing { exposing ≡ man_may_expose p.now man from }
     requires room { array_vec_len list.old + length (legal_between p.now from to) ≤ 1024 }
     ensures { list.new.items ≡ list.old.items ++ legal_between p.now from to }
 {
     if must_choose(man, to) {
-        add_choices(p, man, from, to, bare, exposing, list);
+        add_choices(p, man, from, to, barred, exposing, list);
     } else {
         let promo = None;
-        add_if_safe(p, man, Move { from, to, promo }, bare, exposing, list);
+        add_if_safe(p, man, Move { from, to, promo }, barred, exposing, list);
     }
 }
 
@@ -173,9 +170,10 @@ fn add_from(p: &Bitboards, man: Man, from: Square, list: &mut MoveList)
     }
     let bare = p.put(from, 0);
     let exposing = may_expose(p, man, from, &bare);
+    let barred = barred(p, man, &bare);
     let mut n = 0;
     while let Some(to) = next_square(ways, n) {
-        add_between(p, man, from, to, &bare, exposing, list);
+        add_between(p, man, from, to, barred, exposing, list);
         n = to.number() + 1;
     }
 }

@@ -1,5 +1,9 @@
 use Rattle.std.proofs.Common.{◌+◌, ◌++◌, ◌∙◌, length, ap, sym, arith}
 use Rattle.frz_bits.specs.Words.{IsNext}
+use Rattle.frz_board.specs.Attacks.{is_attacked}
+use Rattle.frz_board.specs.Boards.{Board}
+use Rattle.frz_board.specs.Men.{other_of}
+use Rattle.frz_squares.specs.SquareSets.{set_of}
 use Rattle.frz_fide.specs.SquareBySquare.{legal_between}
 use Rattle.frz_fide.proofs.Order.{from_below, from_below-next, from_below-room}
 use Rattle.frz_fide.proofs.Targets.{off_target, off_way, on_target, on_way, from_next, from_none, from_end}
@@ -21,6 +25,12 @@ add_between-requires-clause-free c =
     c.side.ensures c.turn.ensures c.without-targets.ensures c.in-Some.to next.on_board
     (on_way c.args.p.now c.args.man c.args.from c.without-targets.result c.open_ways-ways.result
     c.open_ways-ways.ensures c.in-Some.to next.on_board next.there).0
+
+pub add_between-requires-clause-barred : goal.add_between-requires-clause-barred
+add_between-requires-clause-barred c king =
+    c.barred-barred.ensures king
+    ∙ ap (λ (q : Board). set_of (λ s. is_attacked q s (other_of c.args.p.now.turn)))
+    c.put-bare.ensures
 
 pub add_between-requires-clause-way : goal.add_between-requires-clause-way
 add_between-requires-clause-way c =
