@@ -75,7 +75,6 @@ fn add_step(
 
 /// Adds the moves of the man of `ready` from the squares `origins` that took nothing and had this
 /// earlier target.
-#[inline(always)]
 fn add_steps(
     set: &Set,
     at: u32,
@@ -113,7 +112,6 @@ struct End<'a> {
 
 /// Adds the moves with this end from the squares `origins` that had this earlier target. Each
 /// position before such a move is tested.
-#[inline(never)]
 fn add_tested(
     set: &Set,
     at: u32,
@@ -142,7 +140,6 @@ fn add_tested(
 }
 
 /// Adds the moves with this end from the squares `origins` that had this earlier target.
-#[inline(always)]
 fn add_at(
     set: &Set,
     at: u32,
