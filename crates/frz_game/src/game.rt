@@ -1,6 +1,6 @@
 //! The restricted game of a rules text over the numbers of its set.
 
-ghost use Rattle.std.specs.Prelude.{◌≡◌, ◌≢◌, ◌≤◌, ◌+◌, IfSome, map, true, ⊤};
+ghost use Rattle.std.specs.Prelude.{◌≡◌, ◌≢◌, ◌≤◌, ◌+◌, IfSome, None, map, true, ⊤};
 ghost use Rattle.frz_arena.specs.declared.node.Node.TheVariants.{Broken};
 ghost use Rattle.frz_arena.specs.Games.{node_by, next_by};
 ghost use Rattle.frz_arena.specs.Names.{named_next, name_in};
@@ -11,12 +11,13 @@ ghost use Rattle.frz_fide.specs.Valid.{IsValid};
 ghost use Rattle.frz_game.specs.Numbers.{is_member, number_of, numbers_by, position_at};
 ghost use Rattle.frz_game.specs.Games.{arm_at, graph_by};
 ghost use Rattle.frz_index.specs.Members.{HasNumber};
+ghost use Rattle.frz_index.specs.Stepping.{IsTurned};
 
 use frz_arena::Node;
 use frz_board::{Move, Position};
 use frz_fide::{Bitboards, Ending, MoveList, after, ending, put_legal_moves};
 use frz_graph::{Arm, ExitBook, Next, NextList, allowed};
-use frz_index::Set;
+use frz_index::{Set, Turned};
 use frz_sets::Rules;
 use frz_steps::Steps;
 use std::alloc::AllocError;
@@ -114,7 +115,8 @@ impl<B: ExitBook> Game<'_, B> {
     /// Where a legal move leads. The set is asked first for the number after a capture, and the
     /// position after the move is looked at only where that gives none.
     #[inline(never)]
-    fn next_by_taking(&self, i: u32, p: &Bitboards, m: Move) -> Next
+    fn next_by_taking(&self, turned: &Turned, i: u32, p: &Bitboards, m: Move) -> Next
+        requires turned { IsTurned self.now.set.now i p.now None turned.now }
         requires number { HasNumber self.now.set.now i p.now }
         requires legal { is_legal p.now m ≡ true }
         ensures { let groups = self.now.rules.now.groups in
@@ -122,14 +124,15 @@ impl<B: ExitBook> Game<'_, B> {
             result ≡ named_next (name_in (numbers_by groups))
             (next_by (is_member groups q) q (B.value_at self.now.book.now q)) }
     {
-        match self.set.number_after_taking(i, p, m) {
+        match self.set.number_after_taking(turned, i, p, m) {
             Some(n) => Next::Inside(n),
             None => self.next_after(i, p, m),
         }
     }
 
     /// Where a legal move leads.
-    fn next(&self, i: u32, p: &Bitboards, m: Move) -> Next
+    fn next(&self, turned: &Turned, i: u32, p: &Bitboards, m: Move) -> Next
+        requires turned { IsTurned self.now.set.now i p.now None turned.now }
         requires number { HasNumber self.now.set.now i p.now }
         requires legal { is_legal p.now m ≡ true }
         ensures { let groups = self.now.rules.now.groups in
@@ -137,13 +140,14 @@ impl<B: ExitBook> Game<'_, B> {
             result ≡ named_next (name_in (numbers_by groups))
             (next_by (is_member groups q) q (B.value_at self.now.book.now q)) }
     {
-        match self.set.number_after_move(i, p, m) {
+        match self.set.number_after_move(turned, i, p, m) {
             Some(n) => Next::Inside(n),
-            None => self.next_by_taking(i, p, m),
+            None => self.next_by_taking(turned, i, p, m),
         }
     }
 
-    fn arm(&self, i: u32, p: &Bitboards, m: Move) -> Arm
+    fn arm(&self, turned: &Turned, i: u32, p: &Bitboards, m: Move) -> Arm
+        requires turned { IsTurned self.now.set.now i p.now None turned.now }
         requires number { HasNumber self.now.set.now i p.now }
         requires legal { is_legal p.now m ≡ true }
         ensures { result ≡ arm_at self.now.rules.now (B.value_at self.now.book.now) p.now m }
@@ -151,7 +155,7 @@ impl<B: ExitBook> Game<'_, B> {
         Arm {
             mv: m,
             free: allowed(self.rules, p.turn(), p.as_position(), m),
-            next: self.next(i, p, m),
+            next: self.next(turned, i, p, m),
         }
     }
 
@@ -164,8 +168,9 @@ impl<B: ExitBook> Game<'_, B> {
             ≡ map (arm_at self.now.rules.now (B.value_at self.now.book.now) p.now) moves.now.items }
     {
         list.clear();
+        let turned = self.set.turned(i, p, &None);
         for m in moves.as_slice() {
-            list.push(self.arm(i, p, *m));
+            list.push(self.arm(&turned, i, p, *m));
         }
     }
 

@@ -22,7 +22,8 @@ use Rattle.frz_sets.specs.Sound.{IsCounted}
 use Rattle.frz_index.proofs.RoomForMen.{any_at, any_found, counted_at}
 use Rattle.frz_index.specs.Members.{HasNumber, Member, Num}
 use Rattle.frz_index.specs.Places.{IsWithinCount, digit_of}
-use Rattle.frz_index.specs.Stepping.{IsPlace, IsShare, IsStep, number_after, stepped, turn_adds}
+use Rattle.frz_index.specs.Stepping.{IsPlace, IsShare, IsStep, IsTurned, number_after, stepped, turn_adds}
+use Rattle.frz_index.specs.declared.across.Turned.{Turned}
 use Rattle.frz_index.proofs.Stepping.{Shifts, at_from, at_rest, at_to, moves, stays}
 
 -- the digits of the groups together
@@ -245,3 +246,15 @@ share_small gs man s k adds n x =
     let product = mul-le x.place (product_from gs (suc k)) 384 134217728 (omega (arith, low, few))
     (omega (arith, whole, whole_fits gs n)) in
     omega (arith, product, x.adds_is)
+
+-- the number after a step, by the turned number
+module _ (gs : List GroupLine) (i : ℕ) (p : Board) (target : Option ℕ) (t : Turned)
+    (h : IsTurned gs i p target t) (left comes : ℕ) where
+  pub turned_some : left + turn_adds gs p.turn p.ep
+      ≤ i + comes + turn_adds gs (other_of p.turn) target →
+      left + t.lost ≤ t.gained + comes
+  turned_some some = omega (arith, some, h.gained_is, h.lost_is)
+
+  pub turned_number : t.gained + comes - left - t.lost
+      ≡ number_after gs p.turn p.ep target i left comes
+  turned_number = omega (arith, h.gained_is, h.lost_is)

@@ -1,5 +1,5 @@
 -- A man gone to an empty square, with the other side to move, and the number after that.
-use Rattle.std.specs.Prelude.{ℕ, suc, ◌+◌, ◌-◌, ◌*◌, ◌≡◌, ◌≢◌, ◌<◌, ◌==◌, ◌&&◌, ◌||◌, Bool, false, not, true, Option, None, Some, List, MatchOption, drop, length, map, slice_index, slice_set}
+use Rattle.std.specs.Prelude.{ℕ, suc, ◌+◌, ◌-◌, ◌*◌, ◌≡◌, ◌≢◌, ◌<◌, ◌^◌, ◌==◌, ◌&&◌, ◌||◌, Bool, false, not, true, Option, None, Some, List, MatchOption, drop, length, map, slice_index, slice_set}
 use Rattle.std.specs.List.{slice_get}
 use Rattle.frz_board.specs.declared.man.Colour.{Colour}
 use Rattle.frz_board.specs.declared.man.Man.{Man}
@@ -10,6 +10,7 @@ use Rattle.frz_board.specs.Squares.{files_apart, is_forward}
 use Rattle.frz_combinations.specs.MixedRadix.{product}
 use Rattle.frz_sets.specs.Sets.{is_state, radix_of}
 use Rattle.frz_sets.specs.Views.{GroupLine}
+use Rattle.frz_index.specs.declared.across.Turned.{Turned}
 use Rattle.frz_index.specs.Places.{IsWithinCount, digit_of}
 use Rattle.frz_index.specs.TurnStates.{turn_number}
 
@@ -91,6 +92,14 @@ turn_adds gs turn target = turn_number gs turn target * product (map radix_of gs
 abbrev pub number_after : List GroupLine → Colour → Option ℕ → Option ℕ → ℕ → ℕ → ℕ → ℕ
 number_after gs turn before after i left comes =
     i + comes + turn_adds gs (other_of turn) after - left - turn_adds gs turn before
+
+-- the number with what the turn state adds after a step, where this is the target then, and what
+-- the turn state added before
+pub record IsTurned (gs : List GroupLine) (i : ℕ) (p : Board) (target : Option ℕ) (t : Turned)
+    : Type 0 where
+  pub gained_is : t.gained ≡ i + turn_adds gs (other_of p.turn) target
+  pub lost_is : t.lost ≡ turn_adds gs p.turn p.ep
+  pub small : t.gained < 2 ^ 34
 
 -- a man that is no pawn moves, or a pawn goes one square forward
 abbrev pub is_plain : Man → ℕ → ℕ → Bool

@@ -1,14 +1,13 @@
 //! The number of a position after a move, computed from the number before it.
-ghost use Rattle.std.specs.Prelude.{ℕ, ◌≡◌, ◌≢◌, ◌<◌, ◌≤◌, ◌+◌, ◌*◌, ◌↔◌, IfSome, IsSome, MatchOption, None, Some, true};
+ghost use Rattle.std.specs.Prelude.{ℕ, ◌≡◌, ◌≢◌, ◌<◌, ◌≤◌, ◌+◌, ◌-◌, ◌*◌, ◌^◌, ◌↔◌, IfSome, IsSome, MatchOption, None, Some, true};
 ghost use Rattle.frz_board.specs.Boards.{is_empty, man_on};
-ghost use Rattle.frz_board.specs.Men.{other_of};
 ghost use Rattle.frz_board.specs.declared.man.Man.{Man};
 ghost use Rattle.frz_fide.specs.Legal.{arrives};
 ghost use Rattle.frz_fide.specs.Valid.{IsValid};
 ghost use Rattle.frz_index.specs.Kept.{IsPlan};
 ghost use Rattle.frz_index.specs.Members.{HasNumber};
 ghost use Rattle.frz_index.specs.Shares.{IsShareOf};
-ghost use Rattle.frz_index.specs.Stepping.{IsQuiet, IsSharedOnBoth, is_plain as is_plain_move, number_after, stepped, turn_adds as turn_adds_to};
+ghost use Rattle.frz_index.specs.Stepping.{IsQuiet, IsSharedOnBoth, IsTurned, is_plain as is_plain_move, stepped, turn_adds as turn_adds_to};
 ghost use Rattle.frz_index.specs.Taking.{IsCountedTaking, IsSpare, IsTaking};
 
 use crate::plan::Plan;
@@ -36,29 +35,35 @@ pub(crate) fn turn_adds(plan: &Plan, turn: Colour, target: Option<Square>) -> u6
     u64::from(turn_number(&plan.targets, turn, target)) * u64::from(plan.whole)
 }
 
-/// The number after a step: `i`, less `left` and what the turn state added before, plus `comes` and
-/// what the turn state adds after.
-pub(crate) fn number_by(
-    plan: &Plan,
-    i: u32,
-    p: &Bitboards,
-    target: &Option<Square>,
-    left: u64,
-    comes: u64,
-) -> u32
-    requires plan { IsPlan plan.now }
-    requires few { comes ≤ 384 * 134217728 }
-    requires some { let gs = plan.now.groups.items in
-        left + turn_adds_to gs p.now.turn p.now.ep
-        ≤ i + comes + turn_adds_to gs (other_of p.now.turn) target.now }
-    requires small { let gs = plan.now.groups.items in
-        number_after gs p.now.turn p.now.ep target.now i left comes < 134217728 }
-    ensures { let gs = plan.now.groups.items in
-        result ≡ number_after gs p.now.turn p.now.ep target.now i left comes }
+/// A number as the turn passes to the other side, before a man moves: with what the new turn state
+/// adds, and what the old one added. It serves all moves of a position that leave the same target.
+#[derive(Clone, Copy)]
+pub struct Turned {
+    pub gained: u64,
+    pub lost: u64,
+}
+
+/// The number `i` of the position as the turn passes to the other side, with this target then.
+pub(crate) fn turned_in(plan: &Plan, i: u32, p: &Bitboards, target: &Option<Square>) -> Turned
+    requires { IsPlan plan.now }
+    ensures { IsTurned plan.now.groups.items i p.now target.now result }
 {
     let before = turn_adds(plan, p.turn(), p.ep());
     let after = turn_adds(plan, p.turn().other(), *target);
-    (u64::from(i) + comes + after - left - before) as u32
+    Turned {
+        gained: u64::from(i) + after,
+        lost: before,
+    }
+}
+
+/// The number after a step: `left` goes from the turned number, and `comes` is added.
+pub(crate) fn number_by(turned: &Turned, left: u64, comes: u64) -> u32
+    requires fits { turned.now.gained + comes < 2 ^ 64 }
+    requires some { left + turned.now.lost ≤ turned.now.gained + comes }
+    requires small { turned.now.gained + comes - left - turned.now.lost < 134217728 }
+    ensures { result ≡ turned.now.gained + comes - left - turned.now.lost }
+{
+    (turned.gained + comes - left - turned.lost) as u32
 }
 
 /// The number of the position after the man has gone to the empty square `to`, with this target
@@ -66,21 +71,23 @@ pub(crate) fn number_by(
 #[inline(always)]
 pub(crate) fn number_after_in(
     plan: &Plan,
-    i: u32,
-    p: &Bitboards,
+    turned: &Turned,
+    _i: u32,
+    _p: &Bitboards,
     man: Man,
     from: Square,
     to: Square,
-    target: &Option<Square>,
+    _target: &Option<Square>,
 ) -> Option<u32>
     requires plan { IsPlan plan.now }
-    requires number { HasNumber plan.now.groups.items i p.now }
-    requires man { man_on p.now from ≡ Some man }
-    requires free { is_empty p.now to ≡ true }
-    requires valid { IsValid (stepped p.now man from to target.now) }
+    requires turned { IsTurned plan.now.groups.items _i _p.now _target.now turned.now }
+    requires number { HasNumber plan.now.groups.items _i _p.now }
+    requires man { man_on _p.now from ≡ Some man }
+    requires free { is_empty _p.now to ≡ true }
+    requires valid { IsValid (stepped _p.now man from to _target.now) }
     ensures told { IsSome result ↔ IsSharedOnBoth plan.now.groups.items man from to }
     ensures number { IfSome result
-        (λ n. HasNumber plan.now.groups.items n (stepped p.now man from to target.now)) }
+        (λ n. HasNumber plan.now.groups.items n (stepped _p.now man from to _target.now)) }
 {
     let _from = from.number();
     let _to = to.number();
@@ -89,7 +96,7 @@ pub(crate) fn number_after_in(
     if left.group != comes.group {
         return None;
     }
-    Some(number_by(plan, i, p, target, left.adds, comes.adds))
+    Some(number_by(turned, left.adds, comes.adds))
 }
 
 /// Is the man no pawn, or does it go one square forward?
@@ -149,22 +156,24 @@ fn loss(plan: &Plan, man: Man, s: Square) -> Option<u64>
 /// taken man.
 pub(crate) fn number_after_taking_in(
     plan: &Plan,
-    i: u32,
-    p: &Bitboards,
+    turned: &Turned,
+    _i: u32,
+    _p: &Bitboards,
     man: Man,
     taken: Man,
     from: Square,
     to: Square,
 ) -> Option<u32>
     requires plan { IsPlan plan.now }
-    requires number { HasNumber plan.now.groups.items i p.now }
-    requires man { man_on p.now from ≡ Some man }
-    requires taken { man_on p.now to ≡ Some taken }
+    requires turned { IsTurned plan.now.groups.items _i _p.now None turned.now }
+    requires number { HasNumber plan.now.groups.items _i _p.now }
+    requires man { man_on _p.now from ≡ Some man }
+    requires taken { man_on _p.now to ≡ Some taken }
     requires apart { from ≢ to }
-    requires valid { IsValid (stepped p.now man from to None) }
+    requires valid { IsValid (stepped _p.now man from to None) }
     ensures told { IsSome result ↔ IsCountedTaking plan.now.groups.items man taken from to }
     ensures number { IfSome result
-        (λ n. HasNumber plan.now.groups.items n (stepped p.now man from to None)) }
+        (λ n. HasNumber plan.now.groups.items n (stepped _p.now man from to None)) }
 {
     let _from = from.number();
     let _to = to.number();
@@ -174,7 +183,7 @@ pub(crate) fn number_after_taking_in(
     if left.group != comes.group {
         return None;
     }
-    Some(number_by(plan, i, p, &None, left.adds + less, comes.adds))
+    Some(number_by(turned, left.adds + less, comes.adds))
 }
 
 /// The man that makes the move, and the man that it takes on its last square. `None` if one of them

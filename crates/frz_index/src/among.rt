@@ -9,9 +9,9 @@ ghost use Rattle.frz_sets.specs.Views.{GroupLine};
 ghost use Rattle.frz_index.specs.Charts.{AreCharts, IsChart};
 ghost use Rattle.frz_index.specs.Kept.{IsPlan};
 ghost use Rattle.frz_index.specs.Members.{HasNumber};
-ghost use Rattle.frz_index.specs.Stepping.{DigitAdds, HasOnBoth, IsCountedOnBoth, stepped};
+ghost use Rattle.frz_index.specs.Stepping.{DigitAdds, HasOnBoth, IsCountedOnBoth, IsTurned, stepped};
 
-use crate::across::{number_after_in, number_by, share};
+use crate::across::{Turned, number_after_in, number_by, share};
 use crate::chart::Chart;
 use crate::digit::digit;
 use crate::plan::Plan;
@@ -71,7 +71,8 @@ fn digit_adds(plan: &Plan, p: &Bitboards, k: usize) -> Option<u64>
 #[inline(never)]
 fn number_among(
     plan: &Plan,
-    i: u32,
+    turned: &Turned,
+    _i: u32,
     p: &Bitboards,
     man: Man,
     from: Square,
@@ -79,7 +80,8 @@ fn number_among(
     target: &Option<Square>,
 ) -> Option<u32>
     requires plan { IsPlan plan.now }
-    requires number { HasNumber plan.now.groups.items i p.now }
+    requires turned { IsTurned plan.now.groups.items _i p.now target.now turned.now }
+    requires number { HasNumber plan.now.groups.items _i p.now }
     requires man { man_on p.now from ≡ Some man }
     requires free { is_empty p.now to ≡ true }
     requires valid { IsValid (stepped p.now man from to target.now) }
@@ -93,7 +95,7 @@ fn number_among(
     let q = gone(p, man, from, to, target);
     let left = digit_adds(plan, p, k)?;
     let comes = digit_adds(plan, &q, k)?;
-    Some(number_by(plan, i, p, target, left, comes))
+    Some(number_by(turned, left, comes))
 }
 
 /// The number of the position after the man has gone to the empty square `to`, with this target
@@ -101,6 +103,7 @@ fn number_among(
 #[inline(always)]
 pub(crate) fn number_after_step_in(
     plan: &Plan,
+    turned: &Turned,
     i: u32,
     p: &Bitboards,
     man: Man,
@@ -109,6 +112,7 @@ pub(crate) fn number_after_step_in(
     target: &Option<Square>,
 ) -> Option<u32>
     requires plan { IsPlan plan.now }
+    requires turned { IsTurned plan.now.groups.items i p.now target.now turned.now }
     requires number { HasNumber plan.now.groups.items i p.now }
     requires man { man_on p.now from ≡ Some man }
     requires free { is_empty p.now to ≡ true }
@@ -118,7 +122,7 @@ pub(crate) fn number_after_step_in(
         (λ n. HasNumber plan.now.groups.items n (stepped p.now man from to target.now)) }
 {
     match share(plan, man, from) {
-        Some(_) => number_after_in(plan, i, p, man, from, to, target),
-        None => number_among(plan, i, p, man, from, to, target),
+        Some(_) => number_after_in(plan, turned, i, p, man, from, to, target),
+        None => number_among(plan, turned, i, p, man, from, to, target),
     }
 }

@@ -21,5 +21,6 @@ mod set;
 mod shares;
 mod turn;
 
+pub use across::Turned;
 pub use old::{MOST_OLD_NUMBERS, old_number, old_size};
 pub use set::Set;

@@ -20,10 +20,12 @@ ghost use Rattle.frz_index.specs.Kept.{IsPlan, is_known};
 ghost use Rattle.frz_index.specs.Leaving.{leaves};
 ghost use Rattle.frz_index.specs.TurnStates.{turn_in};
 ghost use Rattle.frz_index.specs.Room.{has_room};
-ghost use Rattle.frz_index.specs.Stepping.{IsCountedOnBoth, IsQuiet, stepped};
+ghost use Rattle.frz_index.specs.Stepping.{IsCountedOnBoth, IsQuiet, IsTurned, stepped};
 ghost use Rattle.frz_index.specs.Taking.{IsCountedTaking, IsTaking};
 
-use crate::across::{arriving, number_after_taking_in, stepping_man, taking_men};
+use crate::across::{
+    Turned, arriving, number_after_taking_in, stepping_man, taking_men, turned_in,
+};
 use crate::among::number_after_step_in;
 use crate::beside::number_beside_in;
 use crate::digits::{number_of_digits, put_loose};
@@ -239,12 +241,21 @@ impl Set {
         number_beside_in(&self.plan, i, p, q)
     }
 
+    /// The number `i` of the position as the turn passes to the other side, where `target` is then the
+    /// en passant target.
+    pub fn turned(&self, i: u32, p: &Bitboards, target: &Option<Square>) -> Turned
+        ensures { IsTurned self.now i p.now target.now result }
+    {
+        turned_in(&self.plan, i, p, target)
+    }
+
     /// The number of the position after this man has gone to the empty square `to`, where the other
     /// side is to move and `target` is the en passant target. The answer is `Some` exactly where
     /// one group, the same for both squares, is the only one that has the man there as a state.
     #[inline(always)]
     pub fn number_after_step(
         &self,
+        turned: &Turned,
         i: u32,
         p: &Bitboards,
         man: Man,
@@ -252,6 +263,7 @@ impl Set {
         to: Square,
         target: &Option<Square>,
     ) -> Option<u32>
+        requires turned { IsTurned self.now i p.now target.now turned.now }
         requires number { HasNumber self.now i p.now }
         requires man { man_on p.now from ≡ Some man }
         requires free { is_empty p.now to ≡ true }
@@ -260,14 +272,15 @@ impl Set {
         ensures number { IfSome result
             (λ n. HasNumber self.now n (stepped p.now man from to target.now)) }
     {
-        number_after_step_in(&self.plan, i, p, man, from, to, target)
+        number_after_step_in(&self.plan, turned, i, p, man, from, to, target)
     }
 
     /// The number of the position after a legal move. The answer is `Some` exactly where the move
     /// is quiet (it takes nothing and promotes nothing, and a pawn goes one square), and one group
     /// alone counts its man on both squares.
     #[inline(always)]
-    pub fn number_after_move(&self, i: u32, p: &Bitboards, m: Move) -> Option<u32>
+    pub fn number_after_move(&self, turned: &Turned, i: u32, p: &Bitboards, m: Move) -> Option<u32>
+        requires turned { IsTurned self.now i p.now None turned.now }
         requires number { HasNumber self.now i p.now }
         requires legal { is_legal p.now m ≡ true }
         ensures told { IsSome result ↔ ((man : Man)
@@ -277,7 +290,7 @@ impl Set {
         let _to = m.to.number();
         match stepping_man(p, m) {
             None => None,
-            Some(man) => self.number_after_step(i, p, man, m.from, m.to, &None),
+            Some(man) => self.number_after_step(turned, i, p, man, m.from, m.to, &None),
         }
     }
 
@@ -285,7 +298,14 @@ impl Set {
     /// takes a man on its last square and does not promote, one group alone, of one man at most,
     /// counts the moving man on both squares, and one such group, which may be empty, counts the
     /// taken man.
-    pub fn number_after_taking(&self, i: u32, p: &Bitboards, m: Move) -> Option<u32>
+    pub fn number_after_taking(
+        &self,
+        turned: &Turned,
+        i: u32,
+        p: &Bitboards,
+        m: Move,
+    ) -> Option<u32>
+        requires turned { IsTurned self.now i p.now None turned.now }
         requires number { HasNumber self.now i p.now }
         requires legal { is_legal p.now m ≡ true }
         ensures told { IsSome result ↔ ((man taken : Man)
@@ -296,7 +316,7 @@ impl Set {
         match taking_men(p, m) {
             None => None,
             Some((man, taken)) => {
-                number_after_taking_in(&self.plan, i, p, man, taken, m.from, m.to)
+                number_after_taking_in(&self.plan, turned, i, p, man, taken, m.from, m.to)
             }
         }
     }

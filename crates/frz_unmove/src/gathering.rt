@@ -7,6 +7,7 @@ ghost use Rattle.frz_fide.specs.Legal.{is_last};
 ghost use Rattle.frz_fide.specs.Valid.{IsValid};
 ghost use Rattle.frz_index.specs.Members.{HasNumber, Member};
 ghost use Rattle.frz_index.specs.Room.{has_room};
+ghost use Rattle.frz_index.specs.Stepping.{IsTurned};
 ghost use Rattle.frz_unmove.specs.Earlier.{mover_cell as cell_of_mover};
 ghost use Rattle.frz_unmove.specs.Quiet.{IsQuietBack, IsReady, is_quiet_origin};
 ghost use Rattle.frz_unmove.specs.Adding.{Adds};
@@ -19,7 +20,7 @@ use crate::quiet::{Ready, moved_piece, number_by_lines, quiet_origins, ready_on}
 use crate::targets::earlier_targets;
 use frz_bits::{Bitboards, next_square};
 use frz_board::{Colour, Kind, Man, Move, Square, man_of};
-use frz_index::Set;
+use frz_index::{Set, Turned};
 
 /// Where a move arrived, and what a pawn became there.
 #[derive(Clone, Copy)]
@@ -58,17 +59,19 @@ fn add_step(
     q: &Bitboards,
     m: Move,
     ready: &Ready<'_>,
+    turned: &Turned,
     target: &Option<Square>,
     out: &mut Preds,
 )
     requires number { HasNumber set.now at q.now }
+    requires turned { IsTurned set.now at q.now target.now turned.now }
     requires quiet { IsQuietBack q.now m 0 ready.now.man }
     requires ready { IsReady q.now m.to ready.now }
     requires origin { is_quiet_origin ready.now target.now m.to m.from ≡ true }
     requires room { length out.old + 1 ≤ 131072 }
     ensures { Adds (ComesFrom set.now q.now m 0 target.now) out.old out.new 1 }
 {
-    if let Some(number) = number_by_lines(set, at, q, m, ready, target) {
+    if let Some(number) = number_by_lines(set, at, q, m, ready, turned, target) {
         out.push(Pred { number, mv: m });
     }
 }
@@ -92,10 +95,12 @@ fn add_steps(
     ensures { Adds (ComesAt set.now q.now to None 0 target.now) out.old out.new 64 }
 {
     let quiet = quiet_origins(q, ready, to, target, origins);
+    let turned = set.turned(at, q, target);
     let promo = None;
     let mut n = 0;
     while let Some(from) = next_square(quiet, n) {
-        add_step(set, at, q, Move { from, to, promo }, ready, target, out);
+        let m = Move { from, to, promo };
+        add_step(set, at, q, m, ready, &turned, target, out);
         n = from.number() + 1;
     }
 }

@@ -6,14 +6,14 @@ ghost use Rattle.frz_board.specs.Men.{is_pawn};
 ghost use Rattle.frz_board.specs.Moving.{IsStep};
 ghost use Rattle.frz_fide.specs.Valid.{IsValid};
 ghost use Rattle.frz_index.specs.Members.{HasNumber};
-ghost use Rattle.frz_index.specs.Stepping.{stepped};
+ghost use Rattle.frz_index.specs.Stepping.{IsTurned, stepped};
 ghost use Rattle.frz_squares.specs.SquareSets.{has_square};
 ghost use Rattle.frz_unmove.specs.Quiet.{IsPieceAt, IsQuietBack, IsReady, is_quiet_origin, keeps_target};
 
 use crate::earlier::is_valid;
 use frz_bits::{Bitboards, next_square, replaced, without};
 use frz_board::{Kind, Man, Move, Square, cell_of};
-use frz_index::Set;
+use frz_index::{Set, Turned};
 
 /// The man that has moved, if it is no pawn and took nothing, and `q` has no en passant target.
 pub(crate) fn stepped_man(q: &Bitboards, m: Move, taken: u8) -> Option<Man>
@@ -156,8 +156,10 @@ pub(crate) fn number_by_lines(
     q: &Bitboards,
     m: Move,
     ready: &Ready<'_>,
+    turned: &Turned,
     target: &Option<Square>,
 ) -> Option<u32>
+    requires turned { IsTurned set.now at q.now target.now turned.now }
     requires number { HasNumber set.now at q.now }
     requires quiet { IsQuietBack q.now m 0 ready.now.man }
     requires ready { IsReady q.now m.to ready.now }
@@ -170,7 +172,7 @@ pub(crate) fn number_by_lines(
 {
     let _from = m.from.number();
     let _to = m.to.number();
-    match set.number_after_step(at, q, ready.man, m.to, m.from, target) {
+    match set.number_after_step(turned, at, q, ready.man, m.to, m.from, target) {
         Some(n) => Some(n),
         None => set.number_beside(at, q, &back(q, ready.man, m.from, m.to, target)),
     }
@@ -200,7 +202,8 @@ pub(crate) fn number_by_board(
     if !is_valid(&p) {
         return None;
     }
-    match set.number_after_step(at, q, man, m.to, m.from, target) {
+    let turned = set.turned(at, q, target);
+    match set.number_after_step(&turned, at, q, man, m.to, m.from, target) {
         Some(n) => Some(n),
         None => set.number_beside(at, q, &p),
     }

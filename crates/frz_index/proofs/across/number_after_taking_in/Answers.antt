@@ -3,7 +3,7 @@ use Rattle.frz_board.proofs.Lemmas.{cell_back}
 use Rattle.frz_board.specs.Boards.{Board}
 use Rattle.frz_board.specs.Men.{other_of}
 use Rattle.frz_index.proofs.GroupSteps.{product_le, whole_fits}
-use Rattle.frz_index.proofs.NumbersAfterSteps.{none_told, share_small}
+use Rattle.frz_index.proofs.NumbersAfterSteps.{none_told, share_small, turned_number, turned_some}
 use Rattle.frz_index.proofs.NumbersAfterTaking.{after_taking}
 use Rattle.frz_index.proofs.OneShare.{same_group, shared_on_both}
 use Rattle.frz_index.proofs.Bounds.{number_small}
@@ -23,22 +23,22 @@ both c =
     c.in_ok-comes.comes.adds c.if-left-comes.false c.in_ok-left.ensures c.in_ok-comes.ensures
 
 abbrev gone : (c : Else-left-comes) → Board
-gone c = stepped c.args.p.now c.args.man c.args.from c.args.to None
+gone c = stepped c.args._p.now c.args.man c.args.from c.args.to None
 
 told : (c : Else-left-comes) → let gs = c.args.plan.now.groups.items in
-    let p = c.args.p.now in
+    let p = c.args._p.now in
     (c.in_ok-left.left.adds + turn_adds gs p.turn p.ep + c.in_ok-less.less
-    ≤ c.args.i + c.in_ok-comes.comes.adds + turn_adds gs (other_of p.turn) None)
+    ≤ c.args._i + c.in_ok-comes.comes.adds + turn_adds gs (other_of p.turn) None)
     × HasNumber gs
-    (number_after gs p.turn p.ep None c.args.i c.in_ok-left.left.adds c.in_ok-comes.comes.adds
+    (number_after gs p.turn p.ep None c.args._i c.in_ok-left.left.adds c.in_ok-comes.comes.adds
     - c.in_ok-less.less) (gone c)
 told c =
     let low_from = c.number-from.ensures.on_board in
     let from_is = c.number-from.ensures.number in
     let low_to = c.number-to.ensures.on_board in
     let to_is = c.number-to.ensures.number in
-    after_taking c.args.plan.now.groups.items c.args.p.now c.args.man c.args.taken c.args.from
-    c.args.to None c.args.i c.in_ok-left.left.group c.in_ok-left.left.adds
+    after_taking c.args.plan.now.groups.items c.args._p.now c.args.man c.args.taken c.args.from
+    c.args.to None c.args._i c.in_ok-left.left.group c.in_ok-left.left.adds
     c.in_ok-comes.comes.adds c.in_ok-less.less c.requires.number
     (omega (arith, low_from, from_is)) (omega (arith, low_to, to_is)) c.requires.apart
     (cell_back _ c.args.man.colour c.args.man.kind c.requires.man)
@@ -88,12 +88,16 @@ returns-clause-told c = (
 
 -- the taken man's loss goes with what the man adds before
 same : (c : Else-left-comes) → let gs = c.args.plan.now.groups.items in
-    let p = c.args.p.now in
-    number_after gs p.turn p.ep None c.args.i (c.in_ok-left.left.adds + c.in_ok-less.less)
-    c.in_ok-comes.comes.adds
-    ≡ number_after gs p.turn p.ep None c.args.i c.in_ok-left.left.adds c.in_ok-comes.comes.adds
+    let p = c.args._p.now in
+    let t = c.args.turned.now in
+    t.gained + c.in_ok-comes.comes.adds - (c.in_ok-left.left.adds + c.in_ok-less.less) - t.lost
+    ≡ number_after gs p.turn p.ep None c.args._i c.in_ok-left.left.adds c.in_ok-comes.comes.adds
     - c.in_ok-less.less
-same c = omega arith
+same c =
+    let turned = turned_number c.args.plan.now.groups.items c.args._i c.args._p.now None
+    c.args.turned.now c.requires.turned (c.in_ok-left.left.adds + c.in_ok-less.less)
+    c.in_ok-comes.comes.adds in
+    omega (arith, turned)
 
 pub overflow_add-left : goal.overflow_add-left
 overflow_add-left c =
@@ -112,15 +116,20 @@ overflow_add-left c =
       whole_fits gs n,
     )
 
-pub number_by-requires-clause-few : goal.number_by-requires-clause-few
-number_by-requires-clause-few c =
-    share_small c.args.plan.now.groups.items c.args.man c.args.to c.in_ok-comes.comes.group
-    c.in_ok-comes.comes.adds c.requires.plan.numberable c.in_ok-comes.ensures
+pub number_by-requires-clause-fits : goal.number_by-requires-clause-fits
+number_by-requires-clause-fits c =
+    let few = share_small c.args.plan.now.groups.items c.args.man c.args.to
+    c.in_ok-comes.comes.group c.in_ok-comes.comes.adds c.requires.plan.numberable
+    c.in_ok-comes.ensures in
+    let small = c.requires.turned.small in
+    omega (arith, few, small)
 
 pub number_by-requires-clause-some : goal.number_by-requires-clause-some
 number_by-requires-clause-some c =
     let low = (told (goal.at.number_by-requires-clause-some c).Else-left-comes).0 in
-    omega (arith, low)
+    turned_some c.args.plan.now.groups.items c.args._i c.args._p.now None c.args.turned.now
+    c.requires.turned (c.in_ok-left.left.adds + c.in_ok-less.less) c.in_ok-comes.comes.adds
+    (omega (arith, low))
 
 pub number_by-requires-clause-small : goal.number_by-requires-clause-small
 number_by-requires-clause-small c =
