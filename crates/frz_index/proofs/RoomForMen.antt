@@ -1,10 +1,10 @@
 -- A man that stands in a position of the set has room where it
 -- stands, once it is taken off the board.
-use Rattle.std.proofs.Common.{◌≡◌, ◌≢◌, ℕ, zero, suc, ◌+◌, ◌-◌, ◌<◌, ◌≤◌, Bool, true, false, ◌&&◌, ◌||◌, List, [], ◌∷◌, length, slice_index, Option, None, Some, refl, ap, sym, ◌∙◌, subst, arith, inl, inr}
+use Rattle.std.proofs.Common.{◌≡◌, ◌≢◌, ℕ, filter, zero, suc, ◌+◌, ◌-◌, ◌<◌, ◌≤◌, Bool, true, false, ◌&&◌, ◌||◌, List, [], ◌∷◌, length, slice_index, Option, None, Some, refl, ap, sym, ◌∙◌, subst, arith, inl, inr}
 use Rattle.frz_fide.proofs.Lemmas.{same_tests}
 use Rattle.std.specs.Prelude.{◌==◌, nat_lt}
 use Rattle.std.specs.List.{AllByRecursion, list_any, slice_get}
-use Rattle.std.proofs.lemmas.Bool.{cases_Bool, cases_eq, eqb-true, eq-eqb, lt-ltb, and_parts, and_from, false_from_ne_true}
+use Rattle.std.proofs.lemmas.Bool.{cases_Bool, cases_eq, eqb-true, eq-eqb, lt-ltb, ltb-true, and_parts, and_from, false_from_ne_true, or_left, or_right}
 use Rattle.std.proofs.lemmas.List.Folds.{list_any_at}
 use Rattle.std.proofs.lemmas.Option.{get_or_from_slice_get, same_Some, slice_get_within}
 use Rattle.frz_board.specs.declared.man.Colour.{Colour}
@@ -20,7 +20,7 @@ use Rattle.frz_sets.specs.Sets.{has_state, is_state}
 use Rattle.frz_sets.specs.Views.{GroupLine}
 use Rattle.frz_index.specs.declared.chart.Chart.{Chart}
 use Rattle.frz_index.specs.Charts.{IsChart}
-use Rattle.frz_index.specs.Kept.{is_known}
+use Rattle.frz_index.specs.Kept.{is_known, may_lack}
 use Rattle.frz_index.specs.Members.{Member}
 use Rattle.frz_index.specs.Places.{IsWithinCount, places, stands}
 use Rattle.frz_index.specs.Room.{has_room, takes_one_more}
@@ -223,4 +223,39 @@ room_unknown gs r man s h =
     (nat_lt (length (places r found.1)) found.1.most) found.3).0 in
     let covered = any_at (is_state (cell_of_man man) s) gs found.0 found.1 found.2 state in
     let known = either_or (cell_of_man man == 0) (has_state gs (cell_of_man man) s) (inr covered) in
+    cc)
+
+-- an element that is kept passes
+any_kept : {X : Type 0} (keep test : X → Bool) (xs : List X) (i : ℕ) (x : X) →
+    slice_get xs i ≡ Some x → keep x ≡ true → test x ≡ true → list_any test (filter keep xs) ≡ true
+any_kept keep test [] i x e k t = absurd (cc)
+any_kept keep test (y ∷ xs) zero x e k t =
+    let same : y ≡ x = same_Some y x e in
+    let kept : keep y ≡ true = ap keep same ∙ k in
+    let passes : test y ≡ true = ap test same ∙ t in
+    rw kept (or_left (test y) (list_any test (filter keep xs)) passes)
+any_kept keep test (y ∷ xs) (suc i) x e k t =
+    let rest = any_kept keep test xs i x e k t in
+    elim (cases_Bool (keep y)) [
+      | inl kept ↦ rw kept (or_right (test y) (list_any test (filter keep xs)) rest)
+      | inr left ↦ rw left rest
+    ]
+
+-- no room where only groups know the man that have all their men in each position
+pub room_filled : (gs : List GroupLine) (p : Board) (man : Man) (s : ℕ) → Member gs p →
+    is_known (filter may_lack gs) (cell_of_man man) s ≡ false → has_room gs p man s ≡ false
+room_filled gs p man s member h =
+    false_from_ne_true (has_room gs p man s)
+    (λ e.
+    let found = any_found (takes_one_more p man s) gs e in
+    let g = found.1 in
+    let parts = and_parts (is_state (cell_of_man man) s g) (nat_lt (length (places p g)) g.most)
+    found.3 in
+    let least = (counted_at (IsWithinCount p) gs found.0 g member.counts found.2).least in
+    let below = ltb-true (length (places p g)) g.most parts.1 in
+    let lacks : may_lack g ≡ true = lt-ltb g.least g.most (omega (arith, least, below)) in
+    let covered = any_kept may_lack (is_state (cell_of_man man) s) gs found.0 g found.2 lacks
+    parts.0 in
+    let known = either_or (cell_of_man man == 0)
+    (has_state (filter may_lack gs) (cell_of_man man) s) (inr covered) in
     cc)

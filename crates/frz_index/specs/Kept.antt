@@ -1,5 +1,5 @@
 -- What a set keeps of its groups.
-use Rattle.std.specs.Prelude.{ℕ, suc, ◌+◌, ◌≡◌, ◌<◌, ◌≤◌, Bool, false, true, ◌||◌, ◌==◌, List, [], ◌∷◌, drop, length, map, slice_index}
+use Rattle.std.specs.Prelude.{ℕ, suc, ◌+◌, ◌≡◌, ◌<◌, ◌≤◌, Bool, false, true, ◌||◌, ◌==◌, List, [], ◌∷◌, drop, filter, length, map, nat_lt, slice_index}
 use Rattle.frz_combinations.specs.MixedRadix.{product}
 use Rattle.frz_board.specs.declared.man.Colour.TheVariants.{White, Black}
 use Rattle.frz_sets.specs.Groups.{has_king_group}
@@ -32,6 +32,10 @@ pub record AreWeights (gs : List GroupLine) (ws : List ℕ) : Type 0 where
 abbrev pub is_known : List GroupLine → ℕ → ℕ → Bool
 is_known gs cell s = cell == 0 || has_state gs cell s
 
+-- the group may have fewer men than its most
+abbrev pub may_lack : GroupLine → Bool
+may_lack g = nat_lt g.least g.most
+
 -- for each cell, the bitboard of the squares on which it is known
 pub record AreKnown (gs : List GroupLine) (words : List ℕ) : Type 0 where
   pub size : length words ≡ 13
@@ -54,7 +58,7 @@ pub record AreSoundGroups (gs : List GroupLine) : Type 0 where
   pub black_king : has_king_group gs Black ≡ true
 
 -- what is kept is right: the weights, the numbers of all groups, the targets, the known squares,
--- the charts, what each man adds on each square, the rows of binomials up to 384, and the boards of
+-- those that groups know that may have fewer men than their most, the charts, what each man adds on each square, the rows of binomials up to 384, and the boards of
 -- the fixed men; and each state is of one group alone
 pub record IsPlan (plan : Plan) : Type 0 where
   pub sound : AreSoundGroups plan.groups.items
@@ -64,6 +68,7 @@ pub record IsPlan (plan : Plan) : Type 0 where
   pub whole_is : plan.whole ≡ product_from plan.groups.items 0
   pub targets_are : plan.targets.items ≡ targets plan.groups.items
   pub known_are : AreKnown plan.groups.items plan.known_squares
+  pub lacking_are : AreKnown (filter may_lack plan.groups.items) plan.lacking_squares
   pub charts_are : AreCharts plan.groups.items plan.charts.items
   pub shares_are : AreShares plan.groups.items plan.shares.items
   pub rows_are : plan.triangle ≡ MOST_STATES + 1

@@ -1,11 +1,11 @@
 //! What a set keeps: its groups, and what is computed from them once.
-ghost use Rattle.std.specs.Prelude.{◌≡◌, ◌<◌, ◌≤◌, IfOk, length};
+ghost use Rattle.std.specs.Prelude.{◌≡◌, ◌<◌, ◌≤◌, IfOk, filter, length};
 ghost use Rattle.std.specs.List.{AllByRecursion};
 ghost use Rattle.frz_sets.specs.Sound.{AreStates, IsSound};
 ghost use Rattle.frz_index.specs.Charts.{AreCharts};
 ghost use Rattle.frz_sets.specs.Sets.{targets};
 ghost use Rattle.frz_squares.specs.SquareSets.{set_of};
-ghost use Rattle.frz_index.specs.Kept.{AreKnown, AreNumberable, AreWeights, IsPlan, is_known, product_from as product_of};
+ghost use Rattle.frz_index.specs.Kept.{AreKnown, AreNumberable, AreWeights, IsPlan, is_known, may_lack, product_from as product_of};
 
 use crate::chart::{Chart, chart_of};
 use crate::fixed::{FixedBoards, fixed_boards};
@@ -28,6 +28,8 @@ pub(crate) struct Plan {
     /// For each cell, the bitboard of the squares on which some group allows it; all, if it is
     /// empty.
     pub known_squares: [u64; 13],
+    /// `known_squares` by the groups alone that may have fewer men than their most.
+    pub lacking_squares: [u64; 13],
     pub charts: Vec<Chart>,
     /// At 64 * cell + square, what this man adds to a number there, where one group alone tells it.
     pub shares: Vec<Option<Share>>,
@@ -44,6 +46,7 @@ impl Drop for Plan {
             whole: _,
             targets: _,
             known_squares: _,
+            lacking_squares: _,
             charts: _,
             shares: _,
             triangle: _,
@@ -74,6 +77,19 @@ fn copies_of(alloc: Global, groups: &[Group]) -> Result<Vec<Group>, AllocError>
         copies.push(copy_of(alloc, group)?)?;
     }
     Ok(copies)
+}
+
+/// The groups that may have fewer men than their most.
+fn lacking_of(alloc: Global, groups: &[Group]) -> Result<Vec<Group>, AllocError>
+    ensures { IfOk result (λ v. v.items ≡ filter may_lack groups.now) }
+{
+    let mut lacking = Vec::new(alloc);
+    for group in groups {
+        if group.least < group.most {
+            lacking.push(copy_of(alloc, group)?)?;
+        }
+    }
+    Ok(lacking)
 }
 
 fn known(groups: &[Group], cell: u8, square: u8) -> bool
@@ -164,6 +180,8 @@ pub(crate) fn plan_of(alloc: Global, r: &Rules) -> Result<Plan, AllocError>
     let whole = product_from(&groups, 0);
     let targets = targets_of(alloc, &groups)?;
     let known_squares = known_squares_of(&groups);
+    let lacking = lacking_of(alloc, &groups)?;
+    let lacking_squares = known_squares_of(&lacking);
     let charts = charts_of(alloc, &groups)?;
     let shares = shares_of(alloc, &groups, &charts, &weights)?;
     let fixed = fixed_boards(&triangle, &groups);
@@ -173,6 +191,7 @@ pub(crate) fn plan_of(alloc: Global, r: &Rules) -> Result<Plan, AllocError>
         whole,
         targets,
         known_squares,
+        lacking_squares,
         charts,
         shares,
         triangle,

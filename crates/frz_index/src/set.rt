@@ -162,6 +162,16 @@ impl Set {
         contains(self.plan.known_squares[cell as usize], s)
     }
 
+    /// Does some group allow the cell on the square that may have fewer men than its most? If not, no
+    /// position of the set has room there for one man more, the one of this cell.
+    pub fn may_lack(&self, cell: u8, s: Square) -> bool
+        requires { cell ≤ 12 }
+        ensures { (p : Board) (man : Man) → Member self.now p → cell ≡ cell_of_man man →
+            result ≡ false → has_room self.now p man s ≡ false }
+    {
+        contains(self.plan.lacking_squares[cell as usize], s)
+    }
+
     /// The bitboard of the squares on which some group allows the man.
     pub fn known_squares(&self, man: Man) -> u64
         ensures { result ≡ set_of (is_known self.now (cell_of_man man)) }

@@ -250,11 +250,15 @@ fn add_taking(
 
 /// Has the set room for one man more, the one of this cell on the square? `false` for no man.
 fn may_take(set: &Set, q: &Bitboards, taken: u8, to: Square) -> bool
-    requires { Member set.now q.now }
+    requires taken { taken ≤ 12 }
+    requires member { Member set.now q.now }
     ensures { MatchOption (man_of_cell taken)
         (result ≡ false)
         (λ man. result ≡ has_room set.now q.now man to) }
 {
+    if !set.may_lack(taken, to) {
+        return false;
+    }
     match man_of(taken) {
         None => false,
         Some(man) => set.has_room_beside(q, man, to),

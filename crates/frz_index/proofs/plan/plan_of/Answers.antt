@@ -1,7 +1,7 @@
-use Rattle.std.proofs.Common.{List, ap, sym, ◌∙◌, subst}
+use Rattle.std.proofs.Common.{List, ap, filter, sym, ◌∙◌, subst}
 use Rattle.frz_sets.specs.Views.{GroupLine, RuleLines}
 use Rattle.frz_sets.specs.Sets.{targets}
-use Rattle.frz_index.specs.Kept.{AreApart, AreKnown, AreNumberable, AreSoundGroups, AreWeights, product_from}
+use Rattle.frz_index.specs.Kept.{AreApart, AreKnown, AreNumberable, AreSoundGroups, AreWeights, may_lack, product_from}
 use Rattle.std.specs.List.{AllByRecursion}
 use Rattle.frz_sets.specs.Sound.{AreStates}
 use Rattle.frz_index.specs.Charts.{AreCharts}
@@ -38,13 +38,17 @@ returns c =
         targets_are = c.in_ok-targets.ensures ∙ ap targets c.deref-4.ensures.value;
         known_are = subst (λ (gs : List GroupLine). AreKnown gs c.known_squares_of-known_squares.result)
             c.deref-5.ensures.value c.known_squares_of-known_squares.ensures;
+        lacking_are = subst (λ (gs : List GroupLine). AreKnown gs
+            c.known_squares_of-lacking_squares.result)
+            (c.deref-7.ensures.value ∙ c.in_ok-lacking.ensures ∙ ap (filter may_lack) c.deref-6.ensures.value)
+            c.known_squares_of-lacking_squares.ensures;
         charts_are = subst (λ (gs : List GroupLine). AreCharts gs c.in_ok-charts.charts.items)
-            c.deref-6.ensures.value c.in_ok-charts.ensures;
+            c.deref-8.ensures.value c.in_ok-charts.ensures;
         shares_are = subst (λ (gs : List GroupLine). AreShares gs c.in_ok-shares.shares.items)
-            c.deref-7.ensures.value c.in_ok-shares.ensures;
+            c.deref-9.ensures.value c.in_ok-shares.ensures;
         rows_are = c.in_ok-triangle.ensures;
         fixed_are = subst (λ (gs : List GroupLine). AreFixedBoards gs c.fixed_boards-fixed.result)
-            c.deref-10.ensures.value c.fixed_boards-fixed.ensures;
+            c.deref-12.ensures.value c.fixed_boards-fixed.ensures;
       },
       same,
     )
@@ -54,17 +58,17 @@ charts_of-requires c =
     let same = c.in_ok-groups.ensures ∙ c.deref.ensures.value ∙ ap (λ (r : RuleLines). r.groups)
     c.r.view_is in
     subst (AllByRecursion (λ (g : GroupLine). AreStates g.states))
-    (sym (c.deref-6.ensures.value ∙ same)) (in_order c.args.r.now c.requires)
+    (sym (c.deref-8.ensures.value ∙ same)) (in_order c.args.r.now c.requires)
 
 pub shares_of-requires-clause-numberable : goal.shares_of-requires-clause-numberable
 shares_of-requires-clause-numberable c =
     let same = c.in_ok-groups.ensures ∙ c.deref.ensures.value ∙ ap (λ (r : RuleLines). r.groups)
     c.r.view_is in
-    subst AreNumberable (sym (c.deref-7.ensures.value ∙ same)) (numberable c.args.r.now c.requires)
+    subst AreNumberable (sym (c.deref-9.ensures.value ∙ same)) (numberable c.args.r.now c.requires)
 
 pub fixed_boards-fixed-requires-clause-numberable :
     goal.fixed_boards-fixed-requires-clause-numberable
 fixed_boards-fixed-requires-clause-numberable c =
     let same = c.in_ok-groups.ensures ∙ c.deref.ensures.value ∙ ap (λ (r : RuleLines). r.groups)
     c.r.view_is in
-    subst AreNumberable (sym (c.deref-10.ensures.value ∙ same)) (numberable c.args.r.now c.requires)
+    subst AreNumberable (sym (c.deref-12.ensures.value ∙ same)) (numberable c.args.r.now c.requires)
