@@ -22,7 +22,6 @@ use Rattle.frz_backs.specs.Books.{Back}
 use Rattle.frz_backs.specs.Lines.{first_place, is_asked_behind, line_behind, line_over, place_from, place_past}
 use Rattle.frz_backs.specs.Links.{own_over}
 use Rattle.frz_backs.specs.Values.{is_behind, own_value}
-use Rattle.frz_backs.proofs.Told.{or_unknown}
 
 pub some_number : (groups : List GroupLine) (q : Board) →
     is_some (number_of groups q) ≡ is_member groups q

@@ -3,7 +3,7 @@ pub use Rattle.frz_backs.proofs.DecidedTables.{tables_decide}
 pub use Rattle.frz_backs.proofs.DecidingLines.{GivesValue, get_dropped, line_gives, no_line_gives, place_below}
 pub use Rattle.frz_backs.proofs.ExactOver.{outcomes_over}
 pub use Rattle.frz_backs.proofs.FirstValue.{asked_behind, first_of, front_tells, holds_of_atlas_value, lines_alone, none_tell, own_or_told}
-pub use Rattle.frz_backs.proofs.LinkPlies.{mates_within}
+pub use Rattle.frz_backs.proofs.LinkPlies.{mates_through, mates_within}
 pub use Rattle.frz_backs.proofs.LoadedTables.{loaded_backs}
 pub use Rattle.frz_backs.proofs.Numbered.{IsNumbered, atlas_numbered, over_numbered, same_exit}
 pub use Rattle.frz_backs.proofs.OwnLines.{lines_numbered, own_numbered}

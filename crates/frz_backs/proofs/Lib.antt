@@ -8,6 +8,7 @@ mod SmallLags
 mod Numbered
 mod TrueTables
 mod Transfer
+mod TablePlies
 mod LinkPlies
 mod Outcomes
 mod DecidedTables

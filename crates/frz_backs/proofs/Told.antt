@@ -80,12 +80,12 @@ still_decided counts white black v d =
     holds_with_plies (λ (u : Value). is_decided u ≡ true) counts white black v d (λ e n. refl)
     (λ e n. refl)
 
-white_class : (side : Colour) (n : ℕ) →
+pub white_class : (side : Colour) (n : ℕ) →
     class_of (WhiteWinsIn n) side ≡ class_of WhiteWins side
 white_class White n = refl
 white_class Black n = refl
 
-black_class : (side : Colour) (n : ℕ) →
+pub black_class : (side : Colour) (n : ℕ) →
     class_of (BlackWinsIn n) side ≡ class_of BlackWins side
 black_class White n = refl
 black_class Black n = refl

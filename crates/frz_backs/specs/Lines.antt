@@ -1,5 +1,5 @@
 -- Which exit line gives the value of a position.
-use Rattle.std.specs.Prelude.{not, ◌+◌, ℕ, Bool, true, false, ◌&&◌, List, drop, Option, Some, None, if◌then◌else◌}
+use Rattle.std.specs.Prelude.{not, ◌+◌, ℕ, Bool, ◌&&◌, List, drop, Option, Some, None, if◌then◌else◌}
 use Rattle.std.specs.List.{position_from}
 use Rattle.frz_board.specs.Boards.{Board}
 use Rattle.frz_sets.specs.Views.{ExitLine, RuleLines}

@@ -15,7 +15,7 @@ ghost use Rattle.frz_chain.specs.Transfer.{TellsChess};
 ghost use Rattle.frz_backs.specs.Behind.{value_behind};
 ghost use Rattle.frz_backs.specs.Counts.{count_for, counts_of, lines_count};
 ghost use Rattle.frz_backs.specs.Decided.{AreLinesOrTables, HasBothOutcomes};
-ghost use Rattle.frz_backs.specs.LinkPlies.{MatesOver, OwnWinsNumbered};
+ghost use Rattle.frz_backs.specs.LinkPlies.{MatesOver, MatesThrough, OwnWinsNumbered};
 ghost use Rattle.frz_backs.specs.Books.{Back};
 ghost use Rattle.frz_backs.specs.Links.{AreExact, AreTrueLines, Link, backs_of};
 ghost use Rattle.frz_backs.specs.Values.{atlas_value, back_value, own_value};
@@ -56,10 +56,13 @@ pub fn codes_over_tables_tell()
 
 /// Let the exit lines of a table over such tables be true too. Let the side's wins count in all of
 /// these, and its own lines by which the side wins give their plies. Then a win within n by the
-/// table forces mate within n plies.
+/// table forces mate within n plies. Where they do not count in all, let the lines of these by which
+/// the side wins give their plies too. Then the plies of the longest way through them come on top.
 pub fn plies_over_tables()
     ensures mates { (rules : RuleLines) (links : List Link) → AreExact links → (side : Colour) →
         MatesOver rules links side }
+    ensures longest { (rules : RuleLines) (links : List Link) → AreExact links → (side : Colour) →
+        MatesThrough rules links side }
     ensures numbered { (rules : RuleLines) (backs : List Back) (side : Colour) →
         count_for side backs ≡ true → OwnWinsNumbered rules backs side →
         AllNumbered (game_of rules (atlas_value rules backs)) side }

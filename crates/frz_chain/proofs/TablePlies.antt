@@ -45,7 +45,7 @@ forced_later side few many le q v f good =
     forces_later chess mate_alone side (lag_of v + few) (lag_of v + many) q (omega arith) (f good)
 
 -- a true value with a number of plies is a mate within them
-exit_forced : (rules : RuleLines) (value : Board → Value) → AreTrueExits rules value
+pub exit_forced : (rules : RuleLines) (value : Board → Value) → AreTrueExits rules value
     → (side : Colour) (most : ℕ) (q : Board) → IsExit (game_of rules value) q
     → (class_of (value q) side ≡ Good → is_numbered (value q) ≡ true)
     → Forced side most q (value q)

@@ -1,4 +1,4 @@
-use Rattle.std.proofs.Common.{◌≡◌, ◌∙◌, ap, List, is_some}
+use Rattle.std.proofs.Common.{◌∙◌, ap, List, is_some}
 use Rattle.frz_sets.specs.Views.{GroupLine}
 use Rattle.frz_index.specs.Membership.{number_of}
 use Rattle.frz_backs.proofs.DecidingLines.{some_number}

@@ -1,6 +1,5 @@
 use Rattle.std.proofs.Common.{◌≡◌, ◌∙◌, ap, refl, sym, map, not, Bool, true, false, ◌&&◌, List}
 use Rattle.frz_sets.specs.Views.{ExitLine, RuleLines}
-use Rattle.frz_sets.specs.declared.exit.Value.{Value}
 use Rattle.frz_exits.specs.Books.{first_value, value_by}
 use Rattle.frz_exits.specs.Values.{is_unknown}
 use Rattle.frz_backs.specs.FileOn.{loaded_back}

@@ -1,4 +1,4 @@
-use Rattle.std.proofs.Common.{◌≡◌, ◌+◌, ◌-◌, drop, length, take, arith}
+use Rattle.std.proofs.Common.{◌+◌, ◌-◌, drop, length, take, arith}
 use Rattle.std.proofs.lemmas.List.{length-take}
 use Rattle.frz_backs.proofs.DecidingLines.{place_below}
 use Rattle.frz_backs.proofs.lines.line_behind.Goals as goal
