@@ -1,2 +1,3 @@
 -- The lemmas on moves with kings put on a board that other crates cite.
-pub use Rattle.frz_pair_moves.proofs.MenMoved.{legal_man, man_legal, moved_alike}
+pub use Rattle.frz_pair_moves.proofs.KingsGo.{black_after, black_legal, legal_black, legal_white, white_after, white_legal}
+pub use Rattle.frz_pair_moves.proofs.MenMoved.{goes_from, legal_man, man_legal, moved_alike}
