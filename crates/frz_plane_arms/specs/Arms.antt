@@ -1,0 +1,36 @@
+-- Where moves lead: to which configuration, and to which number of it.
+use Rattle.std.specs.Prelude.{ℕ, ◌≡◌, ◌<◌, ◌↔◌, true, List}
+use Rattle.frz_board.specs.Boards.{Board}
+use Rattle.frz_board.specs.Moving.{Step}
+use Rattle.frz_fide.specs.Legal.{is_legal}
+use Rattle.frz_sets.specs.Views.{GroupLine}
+use Rattle.frz_index.specs.Members.{Member, Num}
+use Rattle.frz_configurations.specs.Configurations.{IsSplit}
+use Rattle.frz_planes.specs.Planes.{has_pair}
+use Rattle.frz_king_planes.specs.Kings.{are_free, with_kings}
+use Rattle.frz_kingless.specs.Boards.{IsBoardOf}
+
+-- the kings make a position of the set on these empty squares of the board
+pub record MakesMember (gs : List GroupLine) (p : Board) (a b : ℕ) : Type 0 where
+  pub white : a < 64
+  pub black : b < 64
+  pub free : are_free p a b ≡ true
+  pub member : Member gs (with_kings p a b)
+
+-- the kings make no position of the set on the board
+abbrev pub HasNoMember : List GroupLine → Board → Type 0
+HasNoMember gs p = (a b : ℕ) → MakesMember gs p a b → ⊥
+
+-- the position is in the set exactly where the board is that of a configuration, and its number is
+-- then the one of this configuration with the kings on a and b
+pub record StandsAt (gs : List GroupLine) (position board : Board) (a b : ℕ) : Type 0 where
+  pub member : Member gs position ↔ ((c : ℕ) × IsBoardOf gs c board)
+  pub number : (c : ℕ) → IsBoardOf gs c board → IsSplit gs (Num gs position) c a b
+
+-- the plane has exactly the pairs on which the kings make a position of the set in which the step is
+-- legal, and which the plane `to` has
+abbrev pub AreLeading : List GroupLine → Board → Step → (to plane : List ℕ) → Type 0
+AreLeading gs p m to plane =
+    (a b : ℕ) → a < 64 → b < 64 →
+    (has_pair plane a b ≡ true)
+    ↔ (MakesMember gs p a b × (is_legal (with_kings p a b) m ≡ true) × (has_pair to a b ≡ true))

@@ -1,0 +1,2 @@
+-- Moves from configuration to configuration.
+pub mod Arms

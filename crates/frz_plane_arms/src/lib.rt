@@ -1,0 +1,12 @@
+//! Moves from configuration to configuration: where a step leads on a board without kings, at all
+//! pairs of kings' squares at once.
+#![tactic(auto)]
+
+pub mod laws;
+mod leading;
+mod target;
+#[cfg(test)]
+mod tests;
+
+pub use leading::leading_pairs;
+pub use target::target_of;
