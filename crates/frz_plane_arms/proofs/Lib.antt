@@ -1,3 +1,4 @@
 mod Finding
 mod Standing
 mod LeadingPairs
+mod LeadingKings

@@ -1,13 +1,14 @@
 -- Where moves lead: to which configuration, and to which number of it.
 use Rattle.std.specs.Prelude.{ℕ, ◌≡◌, ◌<◌, ◌↔◌, true, List}
-use Rattle.frz_board.specs.Boards.{Board}
+use Rattle.frz_board.specs.Boards.{Board, is_empty}
 use Rattle.frz_board.specs.Moving.{Step}
-use Rattle.frz_fide.specs.Legal.{is_legal}
+use Rattle.frz_fide.specs.Legal.{after, is_legal}
 use Rattle.frz_sets.specs.Views.{GroupLine}
 use Rattle.frz_index.specs.Members.{Member, Num}
 use Rattle.frz_configurations.specs.Configurations.{IsSplit}
 use Rattle.frz_planes.specs.Planes.{has_pair}
 use Rattle.frz_king_planes.specs.Kings.{are_free, with_kings}
+use Rattle.frz_pair_moves.specs.Kings.{black_then, king_step, white_then}
 use Rattle.frz_kingless.specs.Boards.{IsBoardOf}
 
 -- the kings make a position of the set on these empty squares of the board
@@ -34,3 +35,17 @@ AreLeading gs p m to plane =
     (a b : ℕ) → a < 64 → b < 64 →
     (has_pair plane a b ≡ true)
     ↔ (MakesMember gs p a b × (is_legal (with_kings p a b) m ≡ true) × (has_pair to a b ≡ true))
+
+-- the king of the side to move goes to s by a legal step that stays in the set, to a pair of the
+-- plane
+pub record KingLeads (gs : List GroupLine) (p : Board) (to : List ℕ) (a b s : ℕ) : Type 0 where
+  pub legal : is_legal (with_kings p a b) (king_step p a b s) ≡ true
+  pub inside : Member gs (after (with_kings p a b) (king_step p a b s))
+  pub there : has_pair to (white_then p.turn a s) (black_then p.turn b s) ≡ true
+
+-- so the king goes to some empty square
+pub record KingLeadsQuietly (gs : List GroupLine) (p : Board) (to : List ℕ) (a b : ℕ) : Type 0 where
+  pub square : ℕ
+  pub on_board : square < 64
+  pub empty : is_empty p square ≡ true
+  pub leads : KingLeads gs p to a b square

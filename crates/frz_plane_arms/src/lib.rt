@@ -8,5 +8,5 @@ mod target;
 #[cfg(test)]
 mod tests;
 
-pub use leading::leading_pairs;
+pub use leading::{leading_pairs, leading_quietly, leading_to};
 pub use target::target_of;
