@@ -2,3 +2,4 @@ mod Finding
 mod Standing
 mod LeadingPairs
 mod LeadingKings
+mod CollectedArms

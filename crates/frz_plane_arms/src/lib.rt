@@ -4,9 +4,11 @@
 
 pub mod laws;
 mod leading;
+mod men;
 mod target;
 #[cfg(test)]
 mod tests;
 
 pub use leading::{leading_pairs, leading_quietly, leading_to};
+pub use men::{ManArm, men_arms};
 pub use target::target_of;
