@@ -14,7 +14,7 @@ use Rattle.frz_kingless.specs.Boards.{AreLive, IsBoardOf}
 use Rattle.frz_kingless.proofs.Lemmas.{are_empty, is_that, known_there, made_split}
 use Rattle.frz_pair_moves.specs.Ways.{leave_way}
 use Rattle.frz_pair_moves.proofs.Lemmas.{goes_from, legal_man, man_legal, moved_alike}
-use Rattle.frz_plane_arms.specs.Arms.{MakesMember}
+use Rattle.frz_plane_arms.specs.Arms.{MakesMember, is_led}
 use Rattle.frz_plane_arms.proofs.Standing.{made, man_stands}
 
 -- the live pairs of a configuration are those on which the kings make positions of the set
@@ -43,16 +43,13 @@ module _ (r : RuleLines) (p : Board) (c : ℕ) (live : List ℕ) (sound : IsSoun
 module _ (r : RuleLines) (p : Board) (m : Step) (c d : ℕ) (live next : List ℕ) (sound : IsSound r)
     (board : IsBoardOf r.groups c p) (are : AreLive r.groups c live) (can : can_go p m ≡ true)
     (then : IsBoardOf r.groups d (after p m)) (lively : AreLive r.groups d next) (step : IsStep m)
-    (legal plane to : List ℕ)
-    (left : IsPlaneOf legal (λ a b. (has_pair live a b && leave_way m a b) && has_pair next a b))
-    (cut : IsPlaneOf plane (λ a b. has_pair legal a b && has_pair to a b)) (a b : ℕ) (la : a < 64)
-    (lb : b < 64) where
-  forth : has_pair plane a b ≡ true → MakesMember r.groups p a b
+    (to : List ℕ) (a b : ℕ) (la : a < 64) (lb : b < 64) where
+  pub led_forth : is_led m live next to a b ≡ true → MakesMember r.groups p a b
       × (is_legal (with_kings p a b) m ≡ true) × (has_pair to a b ≡ true)
-  forth h =
-      let parts = and_parts (has_pair legal a b) (has_pair to a b) (sym (cut a b la lb) ∙ h) in
-      let both = and_parts (has_pair live a b && leave_way m a b) (has_pair next a b)
-      (sym (left a b la lb) ∙ parts.0) in
+  led_forth h =
+      let parts = and_parts ((has_pair live a b && leave_way m a b) && has_pair next a b)
+      (has_pair to a b) h in
+      let both = and_parts (has_pair live a b && leave_way m a b) (has_pair next a b) parts.0 in
       let first = and_parts (has_pair live a b) (leave_way m a b) both.0 in
       let here = lives r p c live sound board are a b la lb first.0 in
       let there = lives r (after p m) d next sound then lively a b la lb both.1 in (
@@ -62,9 +59,9 @@ module _ (r : RuleLines) (p : Board) (m : Step) (c d : ℕ) (live next : List �
         parts.1,
       )
 
-  back : MakesMember r.groups p a b × (is_legal (with_kings p a b) m ≡ true)
-      × (has_pair to a b ≡ true) → has_pair plane a b ≡ true
-  back h =
+  pub led_back : MakesMember r.groups p a b × (is_legal (with_kings p a b) m ≡ true)
+      × (has_pair to a b ≡ true) → is_led m live next to a b ≡ true
+  led_back h =
       let now = made r p a b h.0 in
       let own = goes_from p m can in
       let goes = legal_man p m a b step la lb now own h.1 in
@@ -75,15 +72,15 @@ module _ (r : RuleLines) (p : Board) (m : Step) (c d : ℕ) (live next : List �
         free = goes.2.free;
         member = subst (Member r.groups) (moved_alike p m a b step la lb now goes.0 goes.1) member;
       } in
-      cut a b la lb
-      ∙ and_from (has_pair legal a b) (has_pair to a b)
-      (left a b la lb
-      ∙ and_from (has_pair live a b && leave_way m a b) (has_pair next a b)
+      and_from ((has_pair live a b && leave_way m a b) && has_pair next a b) (has_pair to a b)
+      (and_from (has_pair live a b && leave_way m a b) (has_pair next a b)
       (and_from (has_pair live a b) (leave_way m a b)
       (living r p c live sound board are a b la lb h.0) goes.1)
       (living r (after p m) d next sound then lively a b la lb there))
       h.2
 
-  pub leading : (has_pair plane a b ≡ true) ↔ (MakesMember r.groups p a b
+  pub leading : (plane : List ℕ) → IsPlaneOf plane (is_led m live next to) →
+      (has_pair plane a b ≡ true) ↔ (MakesMember r.groups p a b
       × (is_legal (with_kings p a b) m ≡ true) × (has_pair to a b ≡ true))
-  leading = (forth, back)
+  leading plane led =
+      (λ h. led_forth (sym (led a b la lb) ∙ h), λ h. led a b la lb ∙ led_back h)

@@ -3,3 +3,4 @@ mod Standing
 mod LeadingPairs
 mod LeadingKings
 mod CollectedArms
+mod LedByMen

@@ -1,5 +1,5 @@
 -- Where moves lead: to which configuration, and to which number of it.
-use Rattle.std.specs.Prelude.{ℕ, ◌≡◌, ◌<◌, ◌↔◌, true, List}
+use Rattle.std.specs.Prelude.{ℕ, ◌≡◌, ◌<◌, ◌↔◌, ◌&&◌, Bool, true, List}
 use Rattle.frz_board.specs.Boards.{Board, is_empty}
 use Rattle.frz_board.specs.Moving.{Step}
 use Rattle.frz_fide.specs.Legal.{after, is_legal}
@@ -8,6 +8,7 @@ use Rattle.frz_index.specs.Members.{Member, Num}
 use Rattle.frz_configurations.specs.Configurations.{IsSplit}
 use Rattle.frz_planes.specs.Planes.{has_pair}
 use Rattle.frz_king_planes.specs.Kings.{are_free, with_kings}
+use Rattle.frz_pair_moves.specs.Ways.{leave_way}
 use Rattle.frz_pair_moves.specs.Kings.{black_then, king_step, white_then}
 use Rattle.frz_kingless.specs.Boards.{IsBoardOf}
 
@@ -27,6 +28,11 @@ HasNoMember gs p = (a b : ℕ) → MakesMember gs p a b → ⊥
 pub record StandsAt (gs : List GroupLine) (position board : Board) (a b : ℕ) : Type 0 where
   pub member : Member gs position ↔ ((c : ℕ) × IsBoardOf gs c board)
   pub number : (c : ℕ) → IsBoardOf gs c board → IsSplit gs (Num gs position) c a b
+
+-- the kings leave the step its way, and the planes before it and after it have the pair
+abbrev pub is_led : Step → (live live_after to : List ℕ) → (a b : ℕ) → Bool
+is_led m live live_after to a b =
+    ((has_pair live a b && leave_way m a b) && has_pair live_after a b) && has_pair to a b
 
 -- the plane has exactly the pairs on which the kings make a position of the set in which the step is
 -- legal, and which the plane `to` has

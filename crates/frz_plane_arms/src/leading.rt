@@ -2,14 +2,15 @@
 
 ghost use Rattle.std.specs.Prelude.{ℕ, ◌≡◌, ◌<◌, ◌↔◌, true, false};
 ghost use Rattle.frz_board.specs.Boards.{Board, holds};
+ghost use Rattle.frz_board.specs.Moving.{IsStep};
 ghost use Rattle.frz_fide.specs.Legal.{after as board_after, can_go};
 ghost use Rattle.frz_sets.specs.Sound.{IsSound};
 ghost use Rattle.frz_sets.specs.Views.{RuleLines};
-ghost use Rattle.frz_planes.specs.Planes.{has_pair};
+ghost use Rattle.frz_planes.specs.Planes.{has_pair, IsPlaneOf};
 ghost use Rattle.frz_pair_moves.specs.Kings.{handed};
 ghost use Rattle.frz_pair_moves.specs.Moves.{entered};
 ghost use Rattle.frz_kingless.specs.Boards.{AreLive, IsBoardOf};
-ghost use Rattle.frz_plane_arms.specs.Arms.{AreLeading, KingLeads, KingLeadsQuietly, MakesMember};
+ghost use Rattle.frz_plane_arms.specs.Arms.{AreLeading, is_led, KingLeads, KingLeadsQuietly, MakesMember};
 
 use frz_board::{Colour, Move, Square};
 use frz_pair_moves::{arriving_pairs, legal_pairs, stepping_pairs};
@@ -18,7 +19,9 @@ use frz_planes::Plane;
 /// The pairs at which a step that a man can go leads to one of the pairs `to`. `live` has the pairs
 /// of the positions before it, and `live_after` those of the configuration to which it leads.
 pub fn leading_pairs(m: Move, live: &Plane, live_after: &Plane, to: &Plane) -> Plane
-    ensures { (r : RuleLines) (p : Board) (c d : ℕ) → IsSound r → IsBoardOf r.groups c p →
+    ensures plane { IsPlaneOf result (is_led m live.now live_after.now to.now) }
+    ensures step { IsStep m }
+    ensures leading { (r : RuleLines) (p : Board) (c d : ℕ) → IsSound r → IsBoardOf r.groups c p →
         AreLive r.groups c live.now → can_go p m ≡ true → IsBoardOf r.groups d (board_after p m) →
         AreLive r.groups d live_after.now → AreLeading r.groups p m to.now result }
 {
