@@ -1,11 +1,9 @@
 -- The positions of the set that kings make on a board.
 use Rattle.std.proofs.Common.{◌≡◌, ℕ, ◌<◌, true, List, length, length-set, slice_index, slice_set, refl, ap, sym, ◌∙◌, subst}
-use Rattle.std.specs.Prelude.{◌==◌}
 use Rattle.std.proofs.lemmas.Bool.{and_from, and_parts, eq-eqb}
 use Rattle.std.proofs.lemmas.List.{set-get_or, set-set, set_comm}
 use Rattle.frz_board.specs.declared.man.Colour.TheVariants.{White, Black}
-use Rattle.frz_board.specs.declared.man.Kind.TheVariants.{King}
-use Rattle.frz_board.specs.Boards.{Board, has}
+use Rattle.frz_board.specs.Boards.{Board}
 use Rattle.frz_fide.specs.Valid.{IsValid}
 use Rattle.frz_sets.specs.Sound.{IsSound}
 use Rattle.frz_sets.specs.Views.{RuleLines}

@@ -1,5 +1,5 @@
 -- The configuration of a board, found at a pair on which the kings make a valid position.
-use Rattle.std.proofs.Common.{◌≡◌, ℕ, ◌≤◌, ◌<◌, true, ◌&&◌, List, ap, sym, ◌∙◌, subst, arith}
+use Rattle.std.proofs.Common.{◌≡◌, ℕ, true, ◌&&◌, List, ap, sym, ◌∙◌, subst, arith}
 use Rattle.std.proofs.lemmas.Bool.{and_from, and_parts}
 use Rattle.frz_board.specs.Boards.{Board}
 use Rattle.frz_fide.specs.Valid.{IsValid}
@@ -13,7 +13,7 @@ use Rattle.frz_king_planes.specs.Kings.{are_free, with_kings}
 use Rattle.frz_king_planes.specs.Valid.{AreValid}
 use Rattle.frz_kingless.specs.Boards.{IsBoardOf, are_known}
 use Rattle.frz_kingless.proofs.Lemmas.{board_there, known_there, made_member, made_split}
-use Rattle.frz_plane_arms.specs.Arms.{HasNoMember, MakesMember}
+use Rattle.frz_plane_arms.specs.Arms.{HasNoMember}
 
 module _ (r : RuleLines) (q : Board) (valid knows pairs : List ℕ) (sound : IsSound r)
     (are : AreValid q valid) (known : IsPlaneOf knows (are_known r.groups))

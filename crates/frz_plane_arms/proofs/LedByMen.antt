@@ -1,9 +1,9 @@
 -- The pairs at which steps of men lead to pairs of planes, arm by arm.
-use Rattle.std.proofs.Common.{◌≡◌, ℕ, ◌+◌, ◌<◌, ◌≤◌, Bool, true, false, ◌||◌, Some, List, [], length, get_or, refl, ap, sym, ◌∙◌, subst, arith, inl, inr}
+use Rattle.std.proofs.Common.{◌≡◌, ℕ, ◌+◌, ◌<◌, ◌≤◌, Bool, true, false, ◌||◌, Some, List, [], length, ap, sym, ◌∙◌, subst, arith, inl, inr}
 use Rattle.std.specs.Prelude.{◌↔◌}
 use Rattle.std.specs.List.{slice_get, slice_index_or}
 use Rattle.std.proofs.lemmas.Bool.{cases_lt, or_cases, or_left, or_right}
-use Rattle.std.proofs.lemmas.Option.{same_Some, slice_get_read, slice_get_within}
+use Rattle.std.proofs.lemmas.Option.{same_Some, slice_get_within}
 use Rattle.frz_board.specs.Boards.{Board}
 use Rattle.frz_board.specs.Moving.{IsStep, Step}
 use Rattle.frz_fide.specs.Legal.{after, is_legal}
@@ -16,7 +16,7 @@ use Rattle.frz_planes.specs.Planes.{IsPlaneOf, has_pair}
 use Rattle.frz_kingless.specs.Boards.{AreLive, IsBoardOf}
 use Rattle.frz_pair_moves.proofs.Lemmas.{goes_from, legal_man, moved_alike}
 use Rattle.frz_plane_arms.specs.Arms.{MakesMember, is_led}
-use Rattle.frz_plane_arms.specs.MenArms.{AreAllLive, AreArms, HasArm, IsArm, ManLeads}
+use Rattle.frz_plane_arms.specs.MenArms.{AreAllLive, AreArms, ManLeads}
 use Rattle.frz_plane_arms.specs.declared.men.ManArm.{ManArm}
 use Rattle.frz_plane_arms.proofs.LeadingPairs.{led_back, led_forth}
 use Rattle.frz_plane_arms.proofs.Standing.{made, man_stands}

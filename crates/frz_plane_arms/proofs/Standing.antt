@@ -1,5 +1,5 @@
 -- Positions after moves, as positions of the set.
-use Rattle.std.proofs.Common.{◌≡◌, ℕ, ◌<◌, Bool, true, false, ◌&&◌, ap, sym, ◌∙◌, subst}
+use Rattle.std.proofs.Common.{◌≡◌, ℕ, ◌<◌, true, false, sym, subst}
 use Rattle.std.proofs.lemmas.Bool.{and_from, and_parts}
 use Rattle.frz_board.specs.declared.man.Colour.TheVariants.{White, Black}
 use Rattle.frz_board.specs.Boards.{Board, holds}
@@ -8,11 +8,11 @@ use Rattle.frz_fide.specs.Legal.{after, is_legal}
 use Rattle.frz_sets.specs.Sound.{IsSound}
 use Rattle.frz_sets.specs.Views.{RuleLines}
 use Rattle.frz_index.specs.Kept.{is_known}
-use Rattle.frz_index.specs.Members.{Member, Num}
-use Rattle.frz_configurations.specs.Configurations.{IsSplit, configuration_of}
+use Rattle.frz_index.specs.Members.{Member}
+use Rattle.frz_configurations.specs.Configurations.{configuration_of}
 use Rattle.frz_king_planes.specs.Kings.{king_cell, with_kings}
 use Rattle.frz_king_planes.proofs.Lemmas.{free_parts}
-use Rattle.frz_kingless.specs.Boards.{IsBoardOf, are_known}
+use Rattle.frz_kingless.specs.Boards.{are_known}
 use Rattle.frz_kingless.proofs.Lemmas.{board_there, known_there, made_member, made_split}
 use Rattle.frz_pair_moves.specs.Moves.{IsKingMove, Makes, entered}
 use Rattle.frz_pair_moves.proofs.Lemmas.{black_after, black_legal, legal_man, moved_alike, white_after, white_legal}

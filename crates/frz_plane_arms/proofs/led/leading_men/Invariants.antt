@@ -1,4 +1,3 @@
-use Rattle.std.proofs.Common.{◌≡◌}
 use Rattle.frz_plane_arms.proofs.LedByMen.{AreLed}
 use Rattle.frz_plane_arms.proofs.led.leading_men.Given as goal
 

@@ -1,4 +1,4 @@
-use Rattle.std.proofs.Common.{◌<◌, List, arith, refl, subst, sym, ℕ}
+use Rattle.std.proofs.Common.{◌<◌, List, arith, refl, subst, sym}
 use Rattle.frz_board.specs.Boards.{Board}
 use Rattle.frz_fide.specs.Valid.{IsValid}
 use Rattle.frz_sets.specs.Sets.{size_of}
