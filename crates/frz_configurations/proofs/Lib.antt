@@ -3,6 +3,7 @@ pub mod Lemmas
 mod OtherDigits
 mod KingStates
 mod OneNumber
+mod PositionSplit
 mod TakingApart
 mod Ready
 mod Ending

@@ -241,7 +241,7 @@ module _ (p : Board) (a b : ℕ) (size : length p.cells ≡ 64) (la : a < 64) (l
           ]
         ]
 
-    member : Member r.groups q
+    pub member : Member r.groups q
     member = record {
       valid = v;
       men = man_known;

@@ -6,3 +6,6 @@ mod KnownKings
 mod Emptied
 mod Searching
 mod LivePairs
+mod MembersByKings
+-- Other crates cite the module Lemmas alone.
+pub mod Lemmas

@@ -23,7 +23,7 @@ fn king(colour: Colour) -> Man
 }
 
 /// The pairs of squares on which groups have the kings.
-pub(crate) fn known_pairs(set: &Set) -> Plane
+pub fn known_pairs(set: &Set) -> Plane
     ensures { IsPlaneOf result (are_known set.now) }
 {
     Plane::product(

@@ -6,5 +6,5 @@ mod finding;
 pub mod laws;
 mod living;
 
-pub use finding::board_of;
+pub use finding::{board_of, known_pairs};
 pub use living::live_pairs;

@@ -11,7 +11,7 @@ use Rattle.frz_board.specs.Moving.{Step, IsStep}
 use Rattle.frz_board.specs.Squares.{distance}
 use Rattle.frz_squares.proofs.Lemmas.{any_square, some_square}
 use Rattle.frz_bits.proofs.Lemmas.{files_back, ranks_back}
-use Rattle.frz_fide.specs.Legal.{is_legal}
+use Rattle.frz_fide.specs.Legal.{after, is_legal}
 use Rattle.frz_planes.specs.Planes.{has_pair, IsPlaneOf}
 use Rattle.frz_king_planes.specs.Kings.{are_free, king_square, with_kings}
 use Rattle.frz_king_planes.specs.Valid.{AreValid}
@@ -19,7 +19,7 @@ use Rattle.frz_king_planes.proofs.Lemmas.{free_parts}
 use Rattle.frz_pair_moves.specs.Kings.{EntersFrom, black_then, handed, king_step, steps_into, steps_onto, white_then}
 use Rattle.frz_pair_moves.specs.Moves.{Makes, entered}
 use Rattle.frz_pair_moves.proofs.Cells.{unwritten}
-use Rattle.frz_pair_moves.proofs.KingsGo.{black_legal, legal_black, legal_white, white_legal}
+use Rattle.frz_pair_moves.proofs.KingsGo.{black_after, black_legal, legal_black, legal_white, white_after, white_legal}
 use Rattle.frz_pair_moves.proofs.Pairs.{made_by, put_by}
 
 pub step_back : (a b : ℕ) → is_king_step a b ≡ is_king_step b a
@@ -31,16 +31,16 @@ swap true false = refl
 swap false true = refl
 swap false false = refl
 
-white_on : (c : Colour) (a s : ℕ) → a < 64 → s < 64 → white_then c a s < 64
+pub white_on : (c : Colour) (a s : ℕ) → a < 64 → s < 64 → white_then c a s < 64
 white_on White a s la ls = ls
 white_on Black a s la ls = la
 
-black_on : (c : Colour) (b s : ℕ) → b < 64 → s < 64 → black_then c b s < 64
+pub black_on : (c : Colour) (b s : ℕ) → b < 64 → s < 64 → black_then c b s < 64
 black_on White b s lb ls = lb
 black_on Black b s lb ls = ls
 
 -- the square entered is one of the free pair
-entered_free : (p : Board) (c : Colour) (a b s : ℕ) →
+pub entered_free : (p : Board) (c : Colour) (a b s : ℕ) →
     are_free p (white_then c a s) (black_then c b s) ≡ true → slice_index p.cells s ≡ 0
 entered_free p White a b s h = (free_parts p s b h).white
 entered_free p Black a b s h = (free_parts p a s h).black
@@ -52,10 +52,10 @@ entered_empty p s none =
     ap F (unwritten p.cells s none)
 
 -- what a legal move of the king is, whichever side moves
-record Entry (p : Board) (c : Colour) (a b s : ℕ) : Type 0 where
-  step : is_king_step (king_square c a b) s ≡ true
-  free : holds p p.turn s ≡ false
-  made : Makes (entered p s) (white_then c a s) (black_then c b s)
+pub record Entry (p : Board) (c : Colour) (a b s : ℕ) : Type 0 where
+  pub step : is_king_step (king_square c a b) s ≡ true
+  pub free : holds p p.turn s ≡ false
+  pub made : Makes (entered p s) (white_then c a s) (black_then c b s)
 
 module _ (p : Board) (a b s : ℕ) (la : a < 64) (lb : b < 64) (ls : s < 64) (made : Makes p a b)
   where
@@ -65,7 +65,7 @@ module _ (p : Board) (a b s : ℕ) (la : a < 64) (lb : b < 64) (ls : s < 64) (ma
     step_from : (x : ℕ) → x < 64 → IsStep (record { from = x; to = s; promo = None })
     step_from x lx = record { from = lx; to = ls; promo = refl }
 
-    entry : (c : Colour) → p.turn ≡ c → is_legal (with_kings p a b) (goes c) ≡ true →
+    pub entry : (c : Colour) → p.turn ≡ c → is_legal (with_kings p a b) (goes c) ≡ true →
         Entry p c a b s
     entry White e h =
         let r = white_legal p (goes White) b (step_from a la) lb e made h in
@@ -74,7 +74,7 @@ module _ (p : Board) (a b s : ℕ) (la : a < 64) (lb : b < 64) (ls : s < 64) (ma
         let r = black_legal p (goes Black) a (step_from b lb) la e made h in
         record { step = r.0.step; free = r.0.free; made = r.1 }
 
-    enters : (c : Colour) → p.turn ≡ c → Entry p c a b s →
+    pub enters : (c : Colour) → p.turn ≡ c → Entry p c a b s →
         is_legal (with_kings p a b) (goes c) ≡ true
     enters White e r =
         legal_white p (goes White) b (step_from a la) lb e made
@@ -82,6 +82,19 @@ module _ (p : Board) (a b s : ℕ) (la : a < 64) (lb : b < 64) (ls : s < 64) (ma
     enters Black e r =
         legal_black p (goes Black) a (step_from b lb) la e made
         (record { promo = refl; step = r.step; free = r.free }) r.made
+
+    -- the position after it
+    pub king_after : (c : Colour) → p.turn ≡ c → Entry p c a b s →
+        after (with_kings p a b) (goes c)
+        ≡ with_kings (entered p s) (white_then c a s) (black_then c b s)
+    king_after White e r =
+        white_after p (goes White) b (step_from a la) lb e made
+        (record { promo = refl; step = r.step; free = r.free })
+        (free_parts (entered p s) s b r.made.free).apart
+    king_after Black e r =
+        black_after p (goes Black) a (step_from b lb) la e made
+        (record { promo = refl; step = r.step; free = r.free })
+        (λ x. (free_parts (entered p s) a s r.made.free).apart (sym x))
 
 module _ (p : Board) (before : List ℕ) (are : AreValid p before) where
   abbrev c : Colour

@@ -24,11 +24,11 @@ pub put_by : (p : Board) (plane : List ℕ) → AreValid p plane → (a b : ℕ)
     Makes p a b → has_pair plane a b ≡ true
 put_by p plane v a b la lb made = (v.valid a b la lb made.free).1 made.valid
 
-module _ (p : Board) (m : Step) (step : IsStep m) (before kept : List ℕ) (off : ℕ)
-    (are : AreValid p before) (can : can_go p m ≡ true)
+module _ (m : Step) (before kept : List ℕ) (off : ℕ)
     (squares : (s : ℕ) → s < 64 → has_square off s ≡ not (is_on_way m s))
     (keeps : IsPlaneOf kept (λ a b. has_pair before a b && (has_square off a && has_square off b)))
   where
+    -- the pairs of which neither king stands on the way
     leaving : (a b : ℕ) → a < 64 → b < 64 → has_pair kept a b
         ≡ (has_pair before a b && leave_way m a b)
     leaving a b la lb =
@@ -36,16 +36,27 @@ module _ (p : Board) (m : Step) (step : IsStep m) (before kept : List ℕ) (off 
         ∙ ap (λ t. has_pair before a b && (t && has_square off b)) (squares a la)
         ∙ ap (λ t. has_pair before a b && (not (is_on_way m a) && t)) (squares b lb)
 
+    pub leaving_both : (next plane : List ℕ) →
+        IsPlaneOf plane (λ a b. has_pair kept a b && has_pair next a b) →
+        IsPlaneOf plane (λ a b. (has_pair before a b && leave_way m a b) && has_pair next a b)
+    leaving_both next plane cut a b la lb =
+        cut a b la lb ∙ ap (λ t. t && has_pair next a b) (leaving a b la lb)
+
+module _ (p : Board) (m : Step) (step : IsStep m) (before kept : List ℕ) (off : ℕ)
+    (are : AreValid p before) (can : can_go p m ≡ true)
+    (squares : (s : ℕ) → s < 64 → has_square off s ≡ not (is_on_way m s))
+    (keeps : IsPlaneOf kept (λ a b. has_pair before a b && (has_square off a && has_square off b)))
+  where
     kept_parts : (a b : ℕ) → a < 64 → b < 64 → has_pair kept a b ≡ true →
         Makes p a b × (leave_way m a b ≡ true)
     kept_parts a b la lb h =
-        let parts = and_parts (has_pair before a b) (leave_way m a b) (sym (leaving a b la lb) ∙ h) in
+        let parts = and_parts (has_pair before a b) (leave_way m a b) (sym (leaving m before kept off squares keeps a b la lb) ∙ h) in
         (made_by p before are a b la lb parts.0, parts.1)
 
     kept_from : (a b : ℕ) → a < 64 → b < 64 → Makes p a b → leave_way m a b ≡ true →
         has_pair kept a b ≡ true
     kept_from a b la lb made leaves =
-        leaving a b la lb
+        leaving m before kept off squares keeps a b la lb
         ∙ and_from (has_pair before a b) (leave_way m a b) (put_by p before are a b la lb made) leaves
 
     legal_parts : (a b : ℕ) → a < 64 → b < 64 → Makes p a b → is_legal (with_kings p a b) m ≡ true →

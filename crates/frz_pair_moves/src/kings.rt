@@ -56,7 +56,9 @@ fn pairs_around(turn: Colour, s: Square, after: &Plane) -> Plane
 /// pairs of the valid positions before the step, and `to` some of those after it, on the same board
 /// with the other side to move.
 pub fn stepping_pairs(turn: Colour, before: &Plane, to: &Plane) -> Plane
-    ensures { (p : Board) → p.turn ≡ turn → AreValid p before.now →
+    ensures plane { IsPlaneOf result
+        (λ a b. steps_into turn to.now a b && has_pair before.now a b) }
+    ensures legal { (p : Board) → p.turn ≡ turn → AreValid p before.now →
         ((a b : ℕ) → a < 64 → b < 64 → has_pair to.now a b ≡ true → Makes (handed p) a b) →
         (a b : ℕ) → a < 64 → b < 64 →
         (has_pair result a b ≡ true) ↔ (Makes p a b × EntersFrom p to.now a b) }
@@ -70,7 +72,10 @@ pub fn stepping_pairs(turn: Colour, before: &Plane, to: &Plane) -> Plane
 /// stands: a man of the other side is captured. `before` has the pairs of the valid positions before
 /// the move, and `after` those of the board that the king leaves.
 pub fn arriving_pairs(turn: Colour, s: Square, before: &Plane, after: &Plane) -> Plane
-    ensures { (p : Board) → p.turn ≡ turn → holds p turn s ≡ false → AreValid p before.now →
+    ensures plane { IsPlaneOf result
+        (λ a b. steps_onto turn s after.now a b && has_pair before.now a b) }
+    ensures on_board { s < 64 }
+    ensures legal { (p : Board) → p.turn ≡ turn → holds p turn s ≡ false → AreValid p before.now →
         AreValid (entered p s) after.now → AreArriving p s result }
 {
     let mut pairs = pairs_around(turn, s, after);

@@ -1,13 +1,14 @@
 //! The pairs at which a man's step is legal.
 
-ghost use Rattle.std.specs.Prelude.{ℕ, ◌≡◌, ◌<◌, not, true};
+ghost use Rattle.std.specs.Prelude.{ℕ, ◌≡◌, ◌<◌, ◌&&◌, not, true};
 ghost use Rattle.frz_board.specs.Boards.{Board};
 ghost use Rattle.frz_board.specs.Moving.{IsStep};
 ghost use Rattle.frz_squares.specs.SquareSets.{has_square};
 ghost use Rattle.frz_fide.specs.Legal.{after as board_after, can_go};
+ghost use Rattle.frz_planes.specs.Planes.{has_pair, IsPlaneOf};
 ghost use Rattle.frz_king_planes.specs.Valid.{AreValid};
 ghost use Rattle.frz_pair_moves.specs.Moves.{AreLegal};
-ghost use Rattle.frz_pair_moves.specs.Ways.{is_on_way};
+ghost use Rattle.frz_pair_moves.specs.Ways.{is_on_way, leave_way};
 
 use crate::way::way_of;
 use frz_bits::Bitboards;
@@ -28,7 +29,10 @@ fn off_way(m: Move) -> u64
 /// The pairs at which a step that a man can go is legal, by the pairs of the valid positions before
 /// it and after it.
 pub fn legal_pairs(m: Move, before: &Plane, after: &Plane) -> Plane
-    ensures { (p : Board) → AreValid p before.now → AreValid (board_after p m) after.now →
+    ensures plane { IsPlaneOf result
+        (λ a b. (has_pair before.now a b && leave_way m a b) && has_pair after.now a b) }
+    ensures step { IsStep m }
+    ensures legal { (p : Board) → AreValid p before.now → AreValid (board_after p m) after.now →
         can_go p m ≡ true → AreLegal p m result }
 {
     let squares = off_way(m);

@@ -1,0 +1,6 @@
+mod Finding
+mod Standing
+mod LeadingPairs
+mod LeadingKings
+mod CollectedArms
+mod LedByMen

@@ -1,0 +1,3 @@
+-- Moves from configuration to configuration.
+pub mod Arms
+pub mod MenArms

@@ -1,0 +1,35 @@
+//! The pairs at which steps of men lead to pairs of planes.
+
+ghost use Rattle.std.specs.Prelude.{ℕ, ◌≡◌, ◌<◌, ◌↔◌, true, length};
+ghost use Rattle.std.specs.List.{All};
+ghost use Rattle.frz_board.specs.Boards.{Board};
+ghost use Rattle.frz_sets.specs.Sound.{IsSound};
+ghost use Rattle.frz_sets.specs.Views.{RuleLines};
+ghost use Rattle.frz_planes.specs.Planes.{has_pair};
+ghost use Rattle.frz_kingless.specs.Boards.{AreLive, IsBoardOf};
+ghost use Rattle.frz_plane_arms.specs.Arms.{MakesMember};
+ghost use Rattle.frz_plane_arms.specs.MenArms.{AreAllLive, AreArms, ManLeads};
+
+use crate::leading::leading_pairs;
+use crate::men::ManArm;
+use frz_planes::Plane;
+
+/// The pairs at which a legal step of a man leads to a pair of the plane of its configuration. The
+/// arms are those of the configuration whose live pairs `live` has; `lives` has the live pairs of
+/// all configurations.
+pub fn leading_men(arms: &[ManArm], live: &Plane, lives: &[Plane], planes: &[Plane]) -> Plane
+    requires inside { All (λ arm. arm.target < length lives.now) arms.now }
+    requires many { length planes.now ≡ length lives.now }
+    ensures { (r : RuleLines) (p : Board) (c : ℕ) → IsSound r → IsBoardOf r.groups c p →
+        AreLive r.groups c live.now → AreArms r.groups p arms.now →
+        AreAllLive r.groups lives.now → (a b : ℕ) → a < 64 → b < 64 →
+        (has_pair result a b ≡ true)
+        ↔ (MakesMember r.groups p a b × ManLeads r.groups p planes.now a b) }
+{
+    let mut pairs = Plane::empty();
+    for arm in arms {
+        let target = arm.target as usize;
+        pairs.union_with(&leading_pairs(arm.step, live, &lives[target], &planes[target]));
+    }
+    pairs
+}
