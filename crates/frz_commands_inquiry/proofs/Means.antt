@@ -14,8 +14,9 @@ use Rattle.frz_atlas.specs.Loading.{opened_all, opened_own}
 use Rattle.frz_answer.specs.declared.status.Status.{Status}
 use Rattle.frz_answer.specs.Answers.{Answer}
 use Rattle.frz_prelude.proofs.Lemmas.{by_table_status}
+use Rattle.frz_atlas_prelude.specs.TableRefusals.{of_back, of_table}
 use Rattle.frz_atlas_prelude.proofs.Lemmas.{result_is_not_both}
-use Rattle.frz_commands_why.specs.Meaning.{Opens, of_back, of_table}
+use Rattle.frz_commands_why.specs.Meaning.{Opens}
 use Rattle.frz_commands_inquiry.specs.declared.inquiring.Halt.{Halt}
 use Rattle.frz_commands_inquiry.specs.declared.inquiring.Halt.TheVariants.{InputEnded, Lines, LineLength}
 use Rattle.frz_commands_inquiry.specs.declared.inquiring.TheConstants.{MOST_LINES}
@@ -122,7 +123,13 @@ module _ (table : List ℕ) (behind : List (List ℕ)) (files : Files) (input : 
       inquired all (inquiry (reply_in all) MOST_LINES input)
       (lines_answered (reply_in all) MOST_LINES input)
   by_behind bytes contents there opens (Err refusal) are =
-      let refuses = of_back (contents, ap opened_own there ∙ opens) refusal.0 refusal.1 are refl in
+      let refuses = of_back (record {
+        opens = (contents, ap opened_own there ∙ opens);
+        place = refusal.0;
+        fault = refusal.1;
+        refused = are;
+        told = refl;
+      }) in
       let a = asked_behind contents bytes (Err refusal) input files in
       refused a.status a refl refl
       (by_table_status (λ s. MeansStatus table behind files input a s) refusal.1 refuses refuses)
@@ -139,7 +146,7 @@ module _ (table : List ℕ) (behind : List (List ℕ)) (files : Files) (input : 
       → Means (asked_by x (bytes_at files table) (opened_all (map files behind)) input files)
   by_opening (Ok contents) opens = by_held (files table) refl contents opens
   by_opening (Err fault) opens =
-      let refuses = of_table fault opens refl in
+      let refuses = of_table (record { fault = fault; refused = opens; told = refl }) in
       let a = asked_by (Err fault) (bytes_at files table) (opened_all (map files behind)) input
       files in
       refused a.status a refl refl

@@ -19,6 +19,8 @@ use Rattle.frz_backs.proofs.Lemmas.{loaded_backs}
 use Rattle.frz_atlas.specs.Behind.{TableBytes, backs_in, link_of}
 use Rattle.frz_atlas.specs.Held.{all_held}
 use Rattle.frz_atlas.specs.Loading.{opened_all, opened_own}
+use Rattle.frz_atlas.specs.Reading.{LoadsAtlas}
+use Rattle.frz_atlas.specs.declared.reading.LoadedAtlas.{LoadedAtlas}
 use Rattle.frz_atlas.proofs.Lemmas.{kept_backs}
 use Rattle.frz_answer.specs.declared.end.End.{End}
 use Rattle.frz_answer.specs.declared.end.End.TheVariants.{Done, SinkFault, Stopped}
@@ -34,7 +36,6 @@ use Rattle.frz_atlas_prelude.specs.Names.{has_twice}
 use Rattle.frz_atlas_prelude.specs.declared.names.TheConstants.{MOST_BACKS}
 use Rattle.frz_atlas_prelude.proofs.Lemmas.{Holds, apart_names_hold, as_many_as_names}
 use Rattle.frz_ways.proofs.Lemmas.{held_whole, some_rest}
-use Rattle.frz_commands_why.specs.Loading.{LoadsTables}
 use Rattle.frz_commands_inquiry.specs.declared.inquiring.Broken.{Broken}
 use Rattle.frz_commands_inquiry.specs.declared.inquiring.Broken.TheVariants.{Input, Output}
 use Rattle.frz_commands_inquiry.specs.declared.inquiring.Halt.{Halt}
@@ -67,7 +68,7 @@ files_told (Some m) files h = ap Some h
 
 module _ (table : List ℕ) (behind : List (List ℕ)) (apart : has_twice (table ∷ behind) ≡ false)
     (old new : StoreTold) (steps : ℕ) (quiet : StoreQuiet old new) (fine : StoreFine old new)
-    (given : BackTable) (backs : List BackTable) (l : LoadsTables table behind old new given backs)
+    (given : LoadedAtlas) (l : LoadsAtlas table behind old new given)
     (source left : SourceTold) (out taken : SinkTold) where
   abbrev job : Job
   job = asking_at table behind
@@ -78,11 +79,17 @@ module _ (table : List ℕ) (behind : List (List ℕ)) (apart : has_twice (table
   abbrev after : World
   after = world new left taken steps
 
+  abbrev own : BackTable
+  own = given.table
+
+  abbrev backs : List BackTable
+  backs = given.backs.items
+
   abbrev reply : List ℕ → List ℕ
-  reply = reply_to (link_loaded given) (map loaded_back backs)
+  reply = reply_to (link_loaded own) (map loaded_back backs)
 
   abbrev contents : Contents
-  contents = contents_of given.table
+  contents = contents_of own.table
 
   abbrev h : Holds old.files table behind (Some l.bytes) (all_held l.tables)
   h = apart_names_hold old.files table behind apart (Some l.bytes) (all_held l.tables) l.may
@@ -101,7 +108,7 @@ module _ (table : List ℕ) (behind : List (List ℕ)) (apart : has_twice (table
   by_files : (input : List ℕ)
       → answer_of (inquiry reply MOST_LINES input) files ≡ asked_at table behind input files
   by_files input =
-      ap (λ (b : List Back). asked_over (link_loaded given) b input files) same_backs
+      ap (λ (b : List Back). asked_over (link_loaded own) b input files) same_backs
       ∙ (ap (λ (k : Link). asked_over k (backs_in l.tables) input files) l.keeps
       ∙ (sym (ap (λ (y : Opened). asked_by (Ok contents) l.bytes y input files) l.all_open)
       ∙ (sym (ap (λ (x : Result Contents TableFault). asked_by x l.bytes
@@ -284,14 +291,13 @@ module _ (table : List ℕ) (behind : List (List ℕ)) (apart : has_twice (table
 
 -- no more tables were loaded than are named
 pub few_loaded : (table : List ℕ) (behind : List (List ℕ)) → length behind ≤ MOST_BACKS
-    → (old new : StoreTold) (given : BackTable) (backs : List BackTable)
-    → LoadsTables table behind old new given backs
-    → (these : List BackTable) → these ≡ backs → length these ≤ MOST_BACKS
-few_loaded table behind few old new given backs l these same =
+    → (old new : StoreTold) (given : LoadedAtlas) → LoadsAtlas table behind old new given
+    → (these : List BackTable) → these ≡ given.backs.items → length these ≤ MOST_BACKS
+few_loaded table behind few old new given l these same =
     let many = as_many_as_names old.files behind (all_held l.tables) l.may_all in
     let held = length-map l.tables (λ (t : TableBytes). Some t.bytes) in
     let links = length-map l.tables link_of in
-    let loaded = length-map backs link_loaded in
+    let loaded = length-map given.backs.items link_loaded in
     let keep = ap (length {A = Link}) l.all_keep in
     let as_many = ap (length {A = BackTable}) same in
     omega (arith, few, many, held, links, loaded, keep, as_many)

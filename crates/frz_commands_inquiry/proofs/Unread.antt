@@ -8,10 +8,11 @@ use Rattle.frz_table.specs.Opening.{Contents}
 use Rattle.frz_atlas.specs.Behind.{TableBytes}
 use Rattle.frz_atlas.specs.Causes.{HasAtlasCause}
 use Rattle.frz_atlas.specs.Loading.{opened_all, opened_own}
-use Rattle.frz_atlas.specs.Reading.{IsUnopened}
+use Rattle.frz_atlas.specs.Reading.{IsUnopened, RefusesToRead}
 use Rattle.frz_atlas.specs.declared.fault.AtlasFault.{AtlasFault}
 use Rattle.frz_atlas.specs.declared.fault.AtlasFault.TheVariants.{Rules, Table, Back as BackAt, Failed, NoMemory}
 use Rattle.frz_atlas.specs.declared.fault.BackFault.TheVariants.{Refused, Wrong}
+use Rattle.frz_atlas.specs.declared.reading.LoadedAtlas.{LoadedAtlas}
 use Rattle.frz_answer.specs.declared.end.End.{End}
 use Rattle.frz_answer.specs.Ends.{Ran}
 use Rattle.frz_answer.specs.Jobs.{Job, WithinCosts}
@@ -22,7 +23,6 @@ use Rattle.frz_prelude.proofs.Lemmas.{found_where, refusal_said, table_own}
 use Rattle.frz_atlas_prelude.specs.Ending.{EndsAt}
 use Rattle.frz_atlas_prelude.specs.Names.{has_twice}
 use Rattle.frz_atlas_prelude.proofs.Lemmas.{AnswersAt, Holds, MayEndAt, apart_names_hold, back_line_not_empty, ended_at}
-use Rattle.frz_commands_why.specs.Loading.{RefusesTables}
 use Rattle.frz_commands_inquiry.specs.AskOf.{asked_at, asked_by, link_in}
 use Rattle.frz_commands_inquiry.specs.Asking.{ask_costs, asking_at}
 use Rattle.frz_commands_inquiry.specs.Inquiries.{inquiry}
@@ -46,7 +46,7 @@ answer_said (Err fault) bytes y input files e = refusal_said (refusals.Table fau
 
 module _ (table : List ℕ) (behind : List (List ℕ)) (apart : has_twice (table ∷ behind) ≡ false)
     (old new : StoreTold) (steps : ℕ) (quiet : StoreQuiet old new) (input : SourceTold)
-    (out : SinkTold) (fault : AtlasFault) (r : RefusesTables table behind old new fault) where
+    (out : SinkTold) (fault : AtlasFault) (r : RefusesToRead table behind old new fault) where
   abbrev job : Job
   job = asking_at table behind
 
@@ -96,7 +96,7 @@ module _ (table : List ℕ) (behind : List (List ℕ)) (apart : has_twice (table
   }
 
   may_end : (f : AtlasFault) → IsUnopened opened_own r.held r.helds f
-      → HasAtlasCause {T = ℕ} (Err f) old new → MayEndAt job f start mid
+      → HasAtlasCause {T = LoadedAtlas} (Err f) old new → MayEndAt job f start mid
   may_end (Rules f) refused cause = absurd refused
   may_end (Table f) refused cause =
       (table_own f job.statuses refl refl, fine_store old new input out steps steps cause)
@@ -123,7 +123,7 @@ module _ (table : List ℕ) (behind : List (List ℕ)) (apart : has_twice (table
   answers_at Failed refused m given agrees = begun m given agrees
   answers_at NoMemory refused m given agrees = begun m given agrees
 
-  pub unread_ran : (end : End) (after : SinkTold) → HasAtlasCause {T = ℕ} (Err fault) old new
+  pub unread_ran : (end : End) (after : SinkTold) → HasAtlasCause {T = LoadedAtlas} (Err fault) old new
       → EndsAt fault end out after → Ran job end start (world new input after steps)
   unread_ran end after cause ends =
       ended_at job end start mid after

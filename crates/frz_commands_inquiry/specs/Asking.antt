@@ -3,8 +3,8 @@ use Rattle.std.specs.Prelude.{◌≡◌, ℕ, List, [], ◌∷◌, map, true, Op
 use Rattle.frz_answer.specs.declared.status.Status.TheVariants.{Success, Table, Missing, Limit}
 use Rattle.frz_answer.specs.Jobs.{Costs, Job, Once, plain, WithinCosts}
 use Rattle.frz_answer.specs.Words.{taking, unless}
+use Rattle.frz_atlas_prelude.specs.Costs.{loading_bytes, loading_calls}
 use Rattle.frz_atlas_prelude.specs.Names.{Names, file_names_of, has_twice}
-use Rattle.frz_commands_why.specs.Loading.{own_bytes, own_calls}
 use Rattle.frz_commands_inquiry.specs.AskOf.{asked_at}
 use Rattle.frz_commands_inquiry.specs.Meaning.{MeansAsk}
 
@@ -12,8 +12,8 @@ use Rattle.frz_commands_inquiry.specs.Meaning.{MeansAsk}
 abbrev pub ask_costs : Option (List ℕ) → List (Option (List ℕ)) → Costs
 ask_costs held behind = record {
   steps = Some 0;
-  calls = Some (own_calls held behind);
-  asked = Some (own_bytes held behind);
+  calls = Some (loading_calls held behind);
+  asked = Some (loading_bytes held behind);
 }
 
 -- `ask` with these names, no two of which are the same; each line is answered before the next is

@@ -26,10 +26,11 @@ use Rattle.frz_atlas.specs.Behind.{TableBytes, backs_in, leans}
 use Rattle.frz_atlas.specs.Causes.{HasAtlasCause}
 use Rattle.frz_atlas.specs.Held.{all_held}
 use Rattle.frz_atlas.specs.Loading.{opened_all, opened_own}
-use Rattle.frz_atlas.specs.Reading.{IsUnopened}
+use Rattle.frz_atlas.specs.Reading.{IsUnopened, LoadsAtlas, RefusesToRead, WithinReading}
 use Rattle.frz_atlas.specs.declared.fault.AtlasFault.{AtlasFault}
 use Rattle.frz_atlas.specs.declared.fault.AtlasFault.TheVariants.{Rules, Table, Back as BackAt, Failed, NoMemory}
 use Rattle.frz_atlas.specs.declared.fault.BackFault.TheVariants.{Refused, Wrong}
+use Rattle.frz_atlas.specs.declared.reading.LoadedAtlas.{LoadedAtlas}
 use Rattle.frz_atlas.proofs.Lemmas.{kept_backs}
 use Rattle.frz_answer.specs.declared.end.End.{End}
 use Rattle.frz_answer.specs.declared.fault.Fault.TheVariants as stops
@@ -50,7 +51,6 @@ use Rattle.frz_commands_why.specs.Asking.{asking_at}
 use Rattle.frz_commands_why.specs.Costs.{steps_by, why_costs}
 use Rattle.frz_commands_why.specs.Deciders.{decider_of}
 use Rattle.frz_commands_why.specs.Ending.{EndsIn, EndsEarly, EndsLoaded, codes_loaded, stepping_in}
-use Rattle.frz_commands_why.specs.Loading.{LoadsTables, RefusesTables, WithinOwn}
 use Rattle.frz_commands_why.specs.Telling.{EndsWhy, telling_steps, why_text}
 use Rattle.frz_commands_why.specs.Texts.{status_by}
 use Rattle.frz_commands_why.specs.WhyOf.{IsWhyAnswer, IsWhyAt, IsWhyBy, IsWhyOver, code_at, decider_behind, value_behind}
@@ -151,7 +151,7 @@ module _ (there : WayThere) (table : List ℕ) (behind : List (List ℕ))
   mid = world new input out now
 
   spent_within_costs : (held : Option (List ℕ)) (helds : List (Option (List ℕ)))
-      (h : Holds old.files table behind held helds) → WithinOwn held helds old new
+      (h : Holds old.files table behind held helds) → WithinReading held helds old new
       → now ≤ before + steps_by (opened_own held) (unwrap_or held []) side p
       → WithinCosts (why_costs side p (h.all.files table) (map h.all.files behind)) (spent start)
       (spent mid)
@@ -164,7 +164,7 @@ module _ (there : WayThere) (table : List ℕ) (behind : List (List ℕ))
 
   -- some answer over what the names hold
   some_answer_begun : (held : Option (List ℕ)) (helds : List (Option (List ℕ)))
-      (h : Holds old.files table behind held helds) → WithinOwn held helds old new
+      (h : Holds old.files table behind held helds) → WithinReading held helds old new
       → now ≤ before + steps_by (opened_own held) (unwrap_or held []) side p
       → (files : Files) (left : List ℕ) → Agrees start files left
       → Begun job files left start mid
@@ -175,23 +175,28 @@ module _ (there : WayThere) (table : List ℕ) (behind : List (List ℕ))
   }
 
   -- the tables were loaded
-  module _ (given : BackTable) (backs : List BackTable)
-      (l : LoadsTables table behind old new given backs)
-      (steps : now ≤ before + stepping_in given side p) where
+  module _ (given : LoadedAtlas) (l : LoadsAtlas table behind old new given)
+      (steps : now ≤ before + stepping_in given.table side p) where
+    abbrev own : BackTable
+    own = given.table
+
+    abbrev backs : List BackTable
+    backs = given.backs.items
+
     abbrev contents : Contents
-    contents = contents_of given.table
+    contents = contents_of own.table
 
     abbrev h : Holds old.files table behind (Some l.bytes) (all_held l.tables)
     h = apart_names_hold old.files table behind apart (Some l.bytes) (all_held l.tables) l.may
         l.may_all
 
-    leans_as_its_bytes : leans_as given.table.kind ≡ leans l.bytes
+    leans_as_its_bytes : leans_as own.table.kind ≡ leans l.bytes
     leans_as_its_bytes = ap (λ (k : Link). k.leans) l.keeps
 
     same_backs : map loaded_back backs ≡ backs_in l.tables
     same_backs = sym (loaded_backs backs) ∙ kept_backs (map link_loaded backs) l.tables l.all_keep
 
-    same_codes : codes_loaded given ≡ kept_codes contents l.bytes
+    same_codes : codes_loaded own ≡ kept_codes contents l.bytes
     same_codes =
         ap (λ (k : Link). λ (s : Colour). of_side s k.back.white k.back.black) l.keeps
         ∙ (λ i s. by_side s i)
@@ -204,7 +209,7 @@ module _ (there : WayThere) (table : List ℕ) (behind : List (List ℕ))
 
     -- what was told by the loaded tables is told by those in the files
     by_files : (number : ℕ) (end : End) (after : SinkTold)
-        → EndsLoaded given backs side number end out after
+        → EndsLoaded own backs side number end out after
         → EndsWhy contents.rules (value_behind contents l.bytes l.tables) side
         (kept_codes contents l.bytes) (decider_behind contents l.bytes l.tables) number end out
         after
@@ -213,10 +218,10 @@ module _ (there : WayThere) (table : List ℕ) (behind : List (List ℕ))
         (value_behind contents l.bytes l.tables) side c
         (decider_behind contents l.bytes l.tables) number end out after) same_codes
         (subst (λ (b : List Back). EndsWhy contents.rules
-        (value_over (leans l.bytes) contents.rules b) side (codes_loaded given)
+        (value_over (leans l.bytes) contents.rules b) side (codes_loaded own)
         (decider_of (leans l.bytes) (exit_numbers_of contents.text) contents.rules b) number end out after) same_backs
         (subst (λ (t : Bool). EndsWhy contents.rules
-        (value_over t contents.rules (map loaded_back backs)) side (codes_loaded given)
+        (value_over t contents.rules (map loaded_back backs)) side (codes_loaded own)
         (decider_of t (exit_numbers_of contents.text) contents.rules (map loaded_back backs)) number end out after) leans_as_its_bytes ends))
 
     same_steps : now ≤ before + steps_by (opened_own (Some l.bytes)) l.bytes side p
@@ -238,7 +243,7 @@ module _ (there : WayThere) (table : List ℕ) (behind : List (List ℕ))
     by_member : (b : Bool) → is_member contents.rules.groups p ≡ b → (end : End)
         (after : SinkTold) → StoreFine old new
         → MatchBool b (EndsEarly end out after
-        ⊎ EndsLoaded given backs side (Num contents.rules.groups p) end out after)
+        ⊎ EndsLoaded own backs side (Num contents.rules.groups p) end out after)
         (Said (status_of refusals.Outside) (refusal_line refusals.Outside) end out after)
         → Ran job end start (world new input after now)
     by_member true inside end after fine (inl early) =
@@ -282,12 +287,12 @@ module _ (there : WayThere) (table : List ℕ) (behind : List (List ℕ))
         })
 
     pub why_is_told : (end : End) (after : SinkTold) → StoreFine old new
-        → EndsIn given backs side p end out after → Ran job end start (world new input after now)
+        → EndsIn own backs side p end out after → Ran job end start (world new input after now)
     why_is_told end after fine ends =
         by_member (is_member contents.rules.groups p) refl end after fine ends
 
   -- something is refused, or could not be read
-  module _ (fault : AtlasFault) (r : RefusesTables table behind old new fault)
+  module _ (fault : AtlasFault) (r : RefusesToRead table behind old new fault)
       (steps : now ≤ before) where
     abbrev k : Holds old.files table behind r.held r.helds
     k = apart_names_hold old.files table behind apart r.held r.helds r.may r.may_all
@@ -305,7 +310,7 @@ module _ (there : WayThere) (table : List ℕ) (behind : List (List ℕ))
     refusal_begun = some_answer_begun r.held r.helds k r.within no_steps
 
     may_end : (f : AtlasFault) → IsUnopened opened_own r.held r.helds f
-        → HasAtlasCause {T = ℕ} (Err f) old new → MayEndAt job f start mid
+        → HasAtlasCause {T = LoadedAtlas} (Err f) old new → MayEndAt job f start mid
     may_end (Rules f) refused cause = absurd refused
     may_end (Table f) refused cause =
         (table_own f job.statuses refl refl, fine_store old new input out before now cause)
@@ -335,7 +340,7 @@ module _ (there : WayThere) (table : List ℕ) (behind : List (List ℕ))
     answers_at NoMemory refused files left agrees = refusal_begun files left agrees
 
     pub refused_so : (end : End) (after : SinkTold)
-        → HasAtlasCause {T = ℕ} (Err fault) old new → EndsAt fault end out after
+        → HasAtlasCause {T = LoadedAtlas} (Err fault) old new → EndsAt fault end out after
         → Ran job end start (world new input after now)
     refused_so end after cause ends =
         ended_at job end start mid after (quiet_both old new input out before now quiet later) fault

@@ -39,6 +39,7 @@ use Rattle.frz_bound_lines.specs.BoundLines.{kept_line}
 use Rattle.frz_prelude.specs.Refusals.{refusal_line, status_of}
 use Rattle.frz_prelude.specs.declared.refused.Refused.TheVariants as refusals
 use Rattle.frz_prelude.proofs.Lemmas.{by_table_status}
+use Rattle.frz_atlas_prelude.specs.TableRefusals.{of_back, of_table}
 use Rattle.frz_atlas_prelude.proofs.Lemmas.{result_is_not_both}
 use Rattle.frz_reasons.specs.declared.denial.Denial.{Denial}
 use Rattle.frz_reasons.specs.declared.reason.Reason.{Reason}
@@ -49,7 +50,7 @@ use Rattle.frz_reasons.specs.FailingWays.{FailsFrom}
 use Rattle.frz_reasons.specs.ReasonTexts.{denials_text, moves_text}
 use Rattle.frz_commands_why.specs.declared.decider.Decider.{Decider}
 use Rattle.frz_commands_why.specs.Decides.{Decides}
-use Rattle.frz_commands_why.specs.Meaning.{MeansStatus, MeansWhy, Opens, TellsAll, TellsBound, TellsNone, of_back, of_table, wins as wins_told, holds as hold_told, fails as failure_told}
+use Rattle.frz_commands_why.specs.Meaning.{MeansStatus, MeansWhy, Opens, TellsAll, TellsBound, TellsNone, wins as wins_told, holds as hold_told, fails as failure_told}
 use Rattle.frz_commands_why.specs.Telling.{ToldAt, ToldFailure, ToldOpponent, fails, has_bound, has_none, holds, met_wrong, neither, on_way, why_text, wins}
 use Rattle.frz_commands_why.specs.Texts.{end_text, status_by, wrong_in}
 use Rattle.frz_commands_why.specs.WhyOf.{IsWhyAnswer, IsWhyAt, IsWhyBehind, IsWhyBy, code_at, decider_behind, value_behind}
@@ -398,7 +399,13 @@ module _ (laws : WayLaws) (table : List ℕ) (behind : List (List ℕ)) (side : 
       }) (belongs own_format bytes contents opens).read
       (is_member contents.rules.groups p) refl h
   by_behind bytes contents there opens (Err refused) are h =
-      let refuses = of_back (contents, ap opened_own there ∙ opens) refused.0 refused.1 are h in
+      let refuses = of_back (record {
+        opens = (contents, ap opened_own there ∙ opens);
+        place = refused.0;
+        fault = refused.1;
+        refused = are;
+        told = h;
+      }) in
       means_so _ _ h (by_table_status (λ s. MeansStatus table behind side p files a s) refused.1
       refuses refuses)
 
@@ -416,7 +423,7 @@ module _ (laws : WayLaws) (table : List ℕ) (behind : List (List ℕ)) (side : 
       → MeansWhy table behind side p files a
   by_opening (Ok contents) opens h = by_held (files table) refl contents opens h
   by_opening (Err fault) opens h =
-      let refuses = of_table fault opens h in
+      let refuses = of_table (record { fault = fault; refused = opens; told = h }) in
       means_so _ _ h (by_table_status (λ s. MeansStatus table behind side p files a s) fault refuses
       refuses)
 
