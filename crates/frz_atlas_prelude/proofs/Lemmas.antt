@@ -24,6 +24,8 @@ pub use Rattle.frz_atlas_prelude.proofs.TablesOnce.{
   one_tables,
   with_table,
 }
+pub use Rattle.frz_atlas_prelude.proofs.Over.{means_over, one_over, over_held, refusal_says, some_over}
+pub use Rattle.frz_atlas_prelude.proofs.Unread.{OpensTables, unread_ran, within_held}
 pub use Rattle.frz_atlas_prelude.proofs.NamesTaken.{ran_named, ran_refused}
 pub use Rattle.frz_atlas_prelude.proofs.WordsAsked.{asked_lawful, ran_asked, ran_unasked}
 pub use Rattle.frz_atlas_prelude.proofs.RulesRead.{bytes_to_read, calls_to_read, holds_rules, spent_by_files}

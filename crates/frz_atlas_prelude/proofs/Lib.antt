@@ -7,6 +7,8 @@ mod HeldTable
 mod RulesRead
 mod SmallPlaces
 mod FaultEnds
+mod Over
+mod Unread
 mod NamesTaken
 mod OwnRefused
 mod WordsAsked

@@ -6,4 +6,5 @@ pub mod Tables
 pub mod OwnFiles
 pub mod Costs
 pub mod TableRefusals
+pub mod Over
 pub mod RulesRefusals

@@ -1,21 +1,17 @@
 -- An answer of `ask` means what it is to mean.
-use Rattle.std.proofs.Common.{◌≡◌, ◌<◌, ◌≤◌, refl, sym, ap, subst, ◌∙◌, ℕ, List, [], ◌++◌, take, length, map, Option, Some, None, Result, Ok, Err, inl, inr}
-use Rattle.std.specs.Option.{unwrap_or}
+use Rattle.std.proofs.Common.{◌≡◌, ◌<◌, ◌≤◌, refl, sym, ap, subst, ◌∙◌, ℕ, List, ◌++◌, take, length, map, Option, Ok, inl, inr}
 use Rattle.std.proofs.Math.Seq.{take-length}
 use Rattle.std.specs.Prelude.{codes}
 use Rattle.frz_words.specs.Lines.{lines}
-use Rattle.frz_store.specs.Files.{Files, bytes_at}
-use Rattle.frz_table.specs.declared.fault.TableFault.{TableFault}
-use Rattle.frz_table.specs.declared.fault.TableFault.TheVariants as table_faults
+use Rattle.frz_store.specs.Files.{Files}
 use Rattle.frz_table.specs.Opening.{Contents}
-use Rattle.frz_table.proofs.Lemmas.{opened_missing}
 use Rattle.frz_atlas.specs.Behind.{TableBytes, backs_in}
-use Rattle.frz_atlas.specs.Loading.{opened_all, opened_own}
-use Rattle.frz_answer.specs.declared.status.Status.{Status}
+use Rattle.frz_atlas.specs.Loading.{opened_all}
 use Rattle.frz_answer.specs.Answers.{Answer}
-use Rattle.frz_prelude.proofs.Lemmas.{by_table_status}
-use Rattle.frz_atlas_prelude.proofs.Lemmas.{result_is_not_both}
-use Rattle.frz_commands_why.specs.Meaning.{Opens, of_back, of_table}
+use Rattle.frz_atlas_prelude.specs.OwnFiles.{OpensAsOwn}
+use Rattle.frz_atlas_prelude.specs.TableRefusals.{TellsRefusal}
+use Rattle.frz_atlas_prelude.proofs.Lemmas.{means_over, refusal_says}
+use Rattle.frz_commands_why.specs.Meaning.{Opens}
 use Rattle.frz_commands_inquiry.specs.declared.inquiring.Halt.{Halt}
 use Rattle.frz_commands_inquiry.specs.declared.inquiring.Halt.TheVariants.{InputEnded, Lines, LineLength}
 use Rattle.frz_commands_inquiry.specs.declared.inquiring.TheConstants.{MOST_LINES}
@@ -24,7 +20,7 @@ use Rattle.frz_index.proofs.Lemmas.{number_there, of_member}
 use Rattle.frz_check.proofs.Lemmas.{bound_kept}
 use Rattle.frz_backs.specs.Codes.{codes_at}
 use Rattle.frz_commands_why.specs.WhyOf.{value_behind}
-use Rattle.frz_commands_inquiry.specs.AskOf.{answer_of, asked_at, asked_behind, asked_by, link_in}
+use Rattle.frz_commands_inquiry.specs.AskOf.{IsAskedAt, IsAskedOver, answer_of, link_in}
 use Rattle.frz_commands_inquiry.specs.Inquiries.{Inquiry, halt_status, inquiry}
 use Rattle.frz_commands_inquiry.specs.Places.{found_or, outside_text}
 use Rattle.frz_commands_inquiry.specs.Meaning.{MeansAsk, MeansStatus, WhereExact, bytes_of, reply_in, replies}
@@ -98,53 +94,27 @@ module _ (table : List ℕ) (behind : List (List ℕ)) (files : Files) (input : 
   abbrev Means : Answer → Type 0
   Means a = MeansAsk table behind files input a
 
-  refused : (status : Status) (a : Answer) → a.files ≡ files → a.status ≡ status
-      → MeansStatus table behind files input a status → Means a
-  refused status a same is means = record {
-    same = same;
-    says = subst (λ (s : Status). MeansStatus table behind files input a s) (sym is) means;
-  }
-
-  abbrev Opened : Type 0
-  Opened = Result (List TableBytes) (ℕ × TableFault)
-
-  by_behind : (bytes : List ℕ) (contents : Contents) → files table ≡ Some bytes
-      → opened_own (Some bytes) ≡ Ok contents → (y : Opened) → opened_all (map files behind) ≡ y
-      → Means (asked_behind contents bytes y input files)
-  by_behind bytes contents there opens (Ok tables) are =
+  opened_means : (a : Answer) (bytes : List ℕ) (contents : Contents) (tables : List TableBytes)
+      → OpensAsOwn table files bytes contents → opened_all (map files behind) ≡ Ok tables
+      → IsAskedOver input files contents bytes tables a → Means a
+  opened_means a bytes contents tables open_file are e =
       let all : Opens table behind files = record {
         bytes = bytes;
         contents = contents;
-        open_file = record { there = there; opens = opens };
+        open_file = open_file;
         tables = tables;
         all_open = are;
       } in
-      inquired all (inquiry (reply_in all) MOST_LINES input)
-      (lines_answered (reply_in all) MOST_LINES input)
-  by_behind bytes contents there opens (Err refusal) are =
-      let refuses = of_back (contents, ap opened_own there ∙ opens) refusal.0 refusal.1 are refl in
-      let a = asked_behind contents bytes (Err refusal) input files in
-      refused a.status a refl refl
-      (by_table_status (λ s. MeansStatus table behind files input a s) refusal.1 refuses refuses)
+      subst Means (sym e)
+      (inquired all (inquiry (reply_in all) MOST_LINES input)
+      (lines_answered (reply_in all) MOST_LINES input))
 
-  by_held : (held : Option (List ℕ)) → files table ≡ held → (contents : Contents)
-      → opened_own held ≡ Ok contents
-      → Means (asked_behind contents (unwrap_or held []) (opened_all (map files behind)) input files)
-  by_held None there contents opens =
-      absurd (result_is_not_both _ contents table_faults.Missing opens (opened_missing _))
-  by_held (Some bytes) there contents opens =
-      by_behind bytes contents there opens (opened_all (map files behind)) refl
+  refused_means : (a : Answer) → TellsRefusal table behind files a → Means a
+  refused_means a r =
+      let says = refusal_says (λ s. MeansStatus table behind files input a s) r r r in
+      record { same = says.0; says = says.2 }
 
-  by_opening : (x : Result Contents TableFault) → opened_own (files table) ≡ x
-      → Means (asked_by x (bytes_at files table) (opened_all (map files behind)) input files)
-  by_opening (Ok contents) opens = by_held (files table) refl contents opens
-  by_opening (Err fault) opens =
-      let refuses = of_table fault opens refl in
-      let a = asked_by (Err fault) (bytes_at files table) (opened_all (map files behind)) input
-      files in
-      refused a.status a refl refl
-      (by_table_status (λ s. MeansStatus table behind files input a s) fault refuses refuses)
-
-  pub ask_means : (a : Answer) → a ≡ asked_at table behind input files → Means a
-  ask_means a e =
-      subst Means (sym e) (by_opening (opened_own (files table)) refl)
+  pub ask_means : (a : Answer) → IsAskedAt table behind input files a → Means a
+  ask_means a =
+      means_over (IsAskedOver input files) table behind files a (Means a) (opened_means a)
+      (refused_means a)

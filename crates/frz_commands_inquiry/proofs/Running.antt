@@ -1,14 +1,13 @@
 -- How `ask` ends with tables that were loaded.
 use Rattle.std.proofs.Common.{◌≡◌, ◌⊎◌, refl, sym, ap, subst, ◌∙◌, ℕ, ◌≤◌, List, [], ◌∷◌, ◌++◌, take, drop, length, map, true, false, Option, Some, None, Result, Ok, Err, inl, inr, arith, append_assoc}
 use Rattle.std.specs.Prelude.{IfSome}
-use Rattle.std.specs.Option.{option_map, unwrap_or}
+use Rattle.std.specs.Option.{option_map}
 use Rattle.std.specs.Io.KnownBytes.{append_known}
 use Rattle.std.proofs.lemmas.List.{take-append-drop}
 use Rattle.std.proofs.lemmas.List.{append-nil, length-map}
 use Rattle.frz_store.specs.Bytes.{MayBeHeld}
 use Rattle.frz_store.specs.Files.{Files}
 use Rattle.frz_store.specs.Told.{StoreTold, SourceTold, SinkTold, StoreFine, StoreQuiet}
-use Rattle.frz_table.specs.declared.fault.TableFault.{TableFault}
 use Rattle.frz_table.specs.Opening.{Contents, contents_of}
 use Rattle.frz_backs.specs.Books.{Back}
 use Rattle.frz_backs.specs.BackTable.{BackTable}
@@ -18,7 +17,8 @@ use Rattle.frz_backs.specs.Loaded.{link_loaded}
 use Rattle.frz_backs.proofs.Lemmas.{loaded_backs}
 use Rattle.frz_atlas.specs.Behind.{TableBytes, backs_in, link_of}
 use Rattle.frz_atlas.specs.Held.{all_held}
-use Rattle.frz_atlas.specs.Loading.{opened_all, opened_own}
+use Rattle.frz_atlas.specs.Reading.{LoadsAtlas}
+use Rattle.frz_atlas.specs.declared.reading.LoadedAtlas.{LoadedAtlas}
 use Rattle.frz_atlas.proofs.Lemmas.{kept_backs}
 use Rattle.frz_answer.specs.declared.end.End.{End}
 use Rattle.frz_answer.specs.declared.end.End.TheVariants.{Done, SinkFault, Stopped}
@@ -32,15 +32,14 @@ use Rattle.frz_answer.specs.World.{World, world, spent}
 use Rattle.frz_answer.proofs.Lemmas.{failed_first, failed_next, took_next}
 use Rattle.frz_atlas_prelude.specs.Names.{has_twice}
 use Rattle.frz_atlas_prelude.specs.declared.names.TheConstants.{MOST_BACKS}
-use Rattle.frz_atlas_prelude.proofs.Lemmas.{Holds, apart_names_hold, as_many_as_names}
+use Rattle.frz_atlas_prelude.proofs.Lemmas.{Holds, apart_names_hold, as_many_as_names, over_held, within_held}
 use Rattle.frz_ways.proofs.Lemmas.{held_whole, some_rest}
-use Rattle.frz_commands_why.specs.Loading.{LoadsTables}
 use Rattle.frz_commands_inquiry.specs.declared.inquiring.Broken.{Broken}
 use Rattle.frz_commands_inquiry.specs.declared.inquiring.Broken.TheVariants.{Input, Output}
 use Rattle.frz_commands_inquiry.specs.declared.inquiring.Halt.{Halt}
 use Rattle.frz_commands_inquiry.specs.declared.inquiring.Halt.TheVariants.{InputEnded, Lines, LineLength}
 use Rattle.frz_commands_inquiry.specs.declared.inquiring.TheConstants.{MOST_LINES}
-use Rattle.frz_commands_inquiry.specs.AskOf.{answer_of, asked_at, asked_by, asked_over}
+use Rattle.frz_commands_inquiry.specs.AskOf.{IsAskedAt, IsAskedOver, answer_of, asked_over}
 use Rattle.frz_commands_inquiry.specs.Asking.{ask_costs, asking_at}
 use Rattle.frz_commands_inquiry.specs.Ending.{EndsInquiry, RunsInquiry}
 use Rattle.frz_commands_inquiry.specs.Inquired.{InputCause, Inquired, IsAnswered}
@@ -67,7 +66,7 @@ files_told (Some m) files h = ap Some h
 
 module _ (table : List ℕ) (behind : List (List ℕ)) (apart : has_twice (table ∷ behind) ≡ false)
     (old new : StoreTold) (steps : ℕ) (quiet : StoreQuiet old new) (fine : StoreFine old new)
-    (given : BackTable) (backs : List BackTable) (l : LoadsTables table behind old new given backs)
+    (given : LoadedAtlas) (l : LoadsAtlas table behind old new given)
     (source left : SourceTold) (out taken : SinkTold) where
   abbrev job : Job
   job = asking_at table behind
@@ -78,11 +77,17 @@ module _ (table : List ℕ) (behind : List (List ℕ)) (apart : has_twice (table
   abbrev after : World
   after = world new left taken steps
 
+  abbrev own : BackTable
+  own = given.table
+
+  abbrev backs : List BackTable
+  backs = given.backs.items
+
   abbrev reply : List ℕ → List ℕ
-  reply = reply_to (link_loaded given) (map loaded_back backs)
+  reply = reply_to (link_loaded own) (map loaded_back backs)
 
   abbrev contents : Contents
-  contents = contents_of given.table
+  contents = contents_of own.table
 
   abbrev h : Holds old.files table behind (Some l.bytes) (all_held l.tables)
   h = apart_names_hold old.files table behind apart (Some l.bytes) (all_held l.tables) l.may
@@ -94,30 +99,20 @@ module _ (table : List ℕ) (behind : List (List ℕ)) (apart : has_twice (table
   same_backs : map loaded_back backs ≡ backs_in l.tables
   same_backs = sym (loaded_backs backs) ∙ kept_backs (map link_loaded backs) l.tables l.all_keep
 
-  abbrev Opened : Type 0
-  Opened = Result (List TableBytes) (ℕ × TableFault)
-
   -- the answer by the loaded tables is that by the files
   by_files : (input : List ℕ)
-      → answer_of (inquiry reply MOST_LINES input) files ≡ asked_at table behind input files
+      → IsAskedAt table behind input files (answer_of (inquiry reply MOST_LINES input) files)
   by_files input =
-      ap (λ (b : List Back). asked_over (link_loaded given) b input files) same_backs
-      ∙ (ap (λ (k : Link). asked_over k (backs_in l.tables) input files) l.keeps
-      ∙ (sym (ap (λ (y : Opened). asked_by (Ok contents) l.bytes y input files) l.all_open)
-      ∙ (sym (ap (λ (x : Result Contents TableFault). asked_by x l.bytes
-      (opened_all (all_held l.tables)) input files) l.opens)
-      ∙ (sym (ap (λ (q : List (Option (List ℕ))). asked_by (opened_own (Some l.bytes)) l.bytes
-      (opened_all q) input files) h.others)
-      ∙ sym (ap (λ (o : Option (List ℕ)). asked_by (opened_own o) (unwrap_or o [])
-      (opened_all (map files behind)) input files) h.here)))))
+      over_held (IsAskedOver input files) table behind files (Some l.bytes) (all_held l.tables)
+      h.here h.others (Ok contents) (Ok l.tables) l.opens l.all_open _
+      (ap (λ (b : List Back). asked_over (link_loaded own) b input files) same_backs
+      ∙ ap (λ (k : Link). asked_over k (backs_in l.tables) input files) l.keeps)
 
   within : WithinCosts (ask_costs (files table) (map files behind)) (spent start) (spent after)
   within =
-      subst (λ (o : Option (List ℕ)). WithinCosts (ask_costs o (map files behind)) (spent start)
-      (spent after)) (sym h.here)
-      (subst (λ (q : List (Option (List ℕ))). WithinCosts (ask_costs (Some l.bytes) q)
-      (spent start) (spent after)) (sym h.others)
-      (record { steps = omega arith; calls = l.within.calls; asked = l.within.asked }))
+      within_held ask_costs (Some l.bytes) (files table) (all_held l.tables) (map files behind)
+      h.here h.others (spent start) (spent after)
+      (record { steps = omega arith; calls = l.within.calls; asked = l.within.asked })
 
   no_more : (a : Answer) (k : ℕ) → k ≤ a.taken → left.left ≡ option_map (drop k) source.left
       → NoMore a start after
@@ -284,14 +279,13 @@ module _ (table : List ℕ) (behind : List (List ℕ)) (apart : has_twice (table
 
 -- no more tables were loaded than are named
 pub few_loaded : (table : List ℕ) (behind : List (List ℕ)) → length behind ≤ MOST_BACKS
-    → (old new : StoreTold) (given : BackTable) (backs : List BackTable)
-    → LoadsTables table behind old new given backs
-    → (these : List BackTable) → these ≡ backs → length these ≤ MOST_BACKS
-few_loaded table behind few old new given backs l these same =
+    → (old new : StoreTold) (given : LoadedAtlas) → LoadsAtlas table behind old new given
+    → (these : List BackTable) → these ≡ given.backs.items → length these ≤ MOST_BACKS
+few_loaded table behind few old new given l these same =
     let many = as_many_as_names old.files behind (all_held l.tables) l.may_all in
     let held = length-map l.tables (λ (t : TableBytes). Some t.bytes) in
     let links = length-map l.tables link_of in
-    let loaded = length-map backs link_loaded in
+    let loaded = length-map given.backs.items link_loaded in
     let keep = ap (length {A = Link}) l.all_keep in
     let as_many = ap (length {A = BackTable}) same in
     omega (arith, few, many, held, links, loaded, keep, as_many)

@@ -10,7 +10,8 @@ use Rattle.frz_answer.specs.declared.status.Status.{Status}
 use Rattle.frz_answer.specs.declared.status.Status.TheVariants.{Success, Table, Missing, Limit}
 use Rattle.frz_answer.specs.Answers.{Answer}
 use Rattle.frz_atlas.specs.Behind.{backs_in}
-use Rattle.frz_commands_why.specs.Meaning.{Opens, TellsRefusal}
+use Rattle.frz_atlas_prelude.specs.TableRefusals.{TellsRefusal}
+use Rattle.frz_commands_why.specs.Meaning.{Opens}
 use Rattle.frz_commands_why.specs.WhyOf.{code_at, value_behind}
 use Rattle.frz_commands_inquiry.specs.AskOf.{link_in}
 use Rattle.frz_commands_inquiry.specs.Places.{both_text, place_text, reply_to}

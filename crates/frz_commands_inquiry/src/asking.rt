@@ -10,8 +10,8 @@ ghost use Rattle.frz_commands_inquiry.specs.Asking.{ask_words, asking_at};
 
 use crate::inquiring::inquire;
 use frz_answer::{End, refuse};
+use frz_atlas::load_atlas;
 use frz_atlas_prelude::{end_at, names_with_backs};
-use frz_commands_why::load_tables;
 use frz_steps::Steps;
 use frz_store::{Sink, Source, Store};
 use std::alloc::Global;
@@ -34,8 +34,8 @@ fn ask_at<S: Store, I: Source, O: Sink, L: Ledger>(
         (world_of S.Store I.Source O.Sink store.old input.old out.old steps.old)
         (world_of S.Store I.Source O.Sink store.new input.new out.new steps.new) }
 {
-    match load_tables(alloc, store, table, behind) {
-        Ok((own, backs)) => inquire(&own, &backs, input, out),
+    match load_atlas(alloc, store, table, behind) {
+        Ok(loaded) => inquire(&loaded.table, &loaded.backs, input, out),
         Err(fault) => end_at(fault, out),
     }
 }

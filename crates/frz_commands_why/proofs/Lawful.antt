@@ -1,7 +1,6 @@
 -- That `why` has one answer, which means what it is to mean.
-use Rattle.std.proofs.Common.{◌≡◌, sym, ap, ◌∙◌, ℕ, List, [], Bool, true, false, Option, Result, Ok, Err}
-use Rattle.std.specs.Prelude.{map, MatchBool}
-use Rattle.std.specs.Option.{unwrap_or}
+use Rattle.std.proofs.Common.{◌≡◌, sym, ap, ◌∙◌, ℕ, List, Bool, true, false, Option}
+use Rattle.std.specs.Prelude.{MatchBool}
 use Rattle.frz_board.specs.Boards.{Board}
 use Rattle.frz_board.specs.declared.man.Colour.{Colour}
 use Rattle.frz_fen.specs.Reading.{fen_of}
@@ -9,11 +8,9 @@ use Rattle.frz_index.specs.Members.{Num}
 use Rattle.frz_game.specs.Numbers.{is_member}
 use Rattle.frz_game.specs.declared.wrong.Wrong.{Wrong as WrongEntry}
 use Rattle.frz_store.specs.Files.{Files}
-use Rattle.frz_table.specs.declared.fault.TableFault.{TableFault}
 use Rattle.frz_table.specs.Opening.{Contents}
 use Rattle.frz_check.specs.Kept.{kept_codes}
 use Rattle.frz_atlas.specs.Behind.{TableBytes}
-use Rattle.frz_atlas.specs.Loading.{opened_all, opened_own}
 use Rattle.frz_answer.specs.Answers.{Answer, says}
 use Rattle.frz_answer.specs.Lawful.{HasOneAnswer, IsLawful}
 use Rattle.frz_prelude.specs.Positions.{on_position}
@@ -21,15 +18,15 @@ use Rattle.frz_prelude.specs.Refusals.{refusal_line, status_of}
 use Rattle.frz_prelude.specs.declared.refused.Refused.TheVariants as refusals
 use Rattle.frz_prelude.proofs.Lemmas.{fen_lawful}
 use Rattle.frz_atlas_prelude.specs.Asked.{AskedNames}
-use Rattle.frz_atlas_prelude.proofs.Lemmas.{asked_lawful}
+use Rattle.frz_atlas_prelude.proofs.Lemmas.{asked_lawful, one_over}
 use Rattle.frz_commands_line.specs.Sides.{side_of}
 use Rattle.frz_commands_line.proofs.Lemmas.{side_lawful}
 use Rattle.frz_commands_why.specs.Asking.{asking_at, asking_named, why_words}
 use Rattle.frz_commands_why.specs.Telling.{why_text}
 use Rattle.frz_commands_why.specs.Texts.{status_by}
-use Rattle.frz_commands_why.specs.WhyOf.{IsWhyAnswer, IsWhyAt, IsWhyBy, code_at, decider_behind, value_behind}
+use Rattle.frz_commands_why.specs.WhyOf.{IsWhyAnswer, IsWhyAt, IsWhyOver, code_at, decider_behind, value_behind}
 use Rattle.frz_commands_why.proofs.OneTelling.{WayAlone, WayThere, told_once}
-use Rattle.frz_commands_why.proofs.Running.{some_at}
+use Rattle.frz_commands_why.proofs.Running.{some_opened}
 use Rattle.frz_commands_why.proofs.WhyMeans.{WayLaws, why_means}
 
 module _ (alone : WayAlone) (side : Colour) (p : Board) (files : Files) (a b : Answer) where
@@ -50,24 +47,13 @@ module _ (alone : WayAlone) (side : Colour) (p : Board) (files : Files) (a b : A
       ∙ sym h.is
   one_inside contents bytes tables false h k = k ∙ sym h
 
-  one_by : (x : Result Contents TableFault) (bytes : List ℕ)
-      (y : Result (List TableBytes) (ℕ × TableFault)) → IsWhyBy x bytes y side p files a
-      → IsWhyBy x bytes y side p files b → b ≡ a
-  one_by (Ok contents) bytes (Ok tables) h k =
-      one_inside contents bytes tables (is_member contents.rules.groups p) h k
-  one_by (Ok contents) bytes (Err refused) h k = k ∙ sym h
-  one_by (Err fault) bytes y h k = k ∙ sym h
-
 module _ (there : WayThere) (alone : WayAlone) (laws : WayLaws) where
   one_at : (table : List ℕ) (behind : List (List ℕ)) (side : Colour) (p : Board) (files : Files)
       → HasOneAnswer (λ a. IsWhyAt table behind side p files a)
   one_at table behind side p files =
-      let some = some_at there side p files table behind in (
-        some.a,
-        some.answer,
-        λ b k. one_by alone side p files some.a b (opened_own (files table))
-            (unwrap_or (files table) []) (opened_all (map files behind)) some.answer k,
-      )
+      one_over (IsWhyOver side p files) table behind files (some_opened there side p files)
+      (λ contents bytes tables a b. one_inside alone side p files a b contents bytes tables
+      (is_member contents.rules.groups p))
 
   asking_lawful : (table : List ℕ) (behind : List (List ℕ)) (side : Colour) (p : Board)
       → IsLawful (asking_at table behind side p)

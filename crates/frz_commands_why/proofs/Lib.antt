@@ -1,6 +1,5 @@
 pub mod Deciders
 pub mod Places
-pub mod Loaded
 pub mod Told
 pub mod OneDenial
 pub mod OneTelling
@@ -10,4 +9,3 @@ pub mod Running
 pub mod Inside
 pub mod WhyMeans
 pub mod Lawful
-pub mod Lemmas

@@ -25,11 +25,10 @@ use Rattle.frz_backs.proofs.Lemmas.{loaded_backs}
 use Rattle.frz_atlas.specs.Behind.{TableBytes, backs_in, leans}
 use Rattle.frz_atlas.specs.Causes.{HasAtlasCause}
 use Rattle.frz_atlas.specs.Held.{all_held}
-use Rattle.frz_atlas.specs.Loading.{opened_all, opened_own}
-use Rattle.frz_atlas.specs.Reading.{IsUnopened}
+use Rattle.frz_atlas.specs.Loading.{opened_own}
+use Rattle.frz_atlas.specs.Reading.{LoadsAtlas, RefusesToRead, WithinReading}
 use Rattle.frz_atlas.specs.declared.fault.AtlasFault.{AtlasFault}
-use Rattle.frz_atlas.specs.declared.fault.AtlasFault.TheVariants.{Rules, Table, Back as BackAt, Failed, NoMemory}
-use Rattle.frz_atlas.specs.declared.fault.BackFault.TheVariants.{Refused, Wrong}
+use Rattle.frz_atlas.specs.declared.reading.LoadedAtlas.{LoadedAtlas}
 use Rattle.frz_atlas.proofs.Lemmas.{kept_backs}
 use Rattle.frz_answer.specs.declared.end.End.{End}
 use Rattle.frz_answer.specs.declared.fault.Fault.TheVariants as stops
@@ -41,39 +40,19 @@ use Rattle.frz_answer.specs.World.{World, world, Agrees, spent}
 use Rattle.frz_answer.proofs.Lemmas.{Begun, fine_store, quiet_both, said, stopped}
 use Rattle.frz_prelude.specs.Refusals.{refusal_line, status_of}
 use Rattle.frz_prelude.specs.declared.refused.Refused.TheVariants as refusals
-use Rattle.frz_prelude.proofs.Lemmas.{found_where, refusal_said, table_own}
+use Rattle.frz_prelude.proofs.Lemmas.{found_where, refusal_said}
 use Rattle.frz_atlas_prelude.specs.Ending.{EndsAt}
 use Rattle.frz_atlas_prelude.specs.Names.{has_twice}
-use Rattle.frz_atlas_prelude.proofs.Lemmas.{AnswersAt, Holds, MayEndAt, apart_names_hold, back_line_not_empty, ended_at}
+use Rattle.frz_atlas_prelude.proofs.Lemmas.{Holds, apart_names_hold, over_held, some_over, unread_ran, within_held}
 use Rattle.frz_exit_lines.specs.Numbers.{exit_numbers_of}
 use Rattle.frz_commands_why.specs.Asking.{asking_at}
 use Rattle.frz_commands_why.specs.Costs.{steps_by, why_costs}
 use Rattle.frz_commands_why.specs.Deciders.{decider_of}
 use Rattle.frz_commands_why.specs.Ending.{EndsIn, EndsEarly, EndsLoaded, codes_loaded, stepping_in}
-use Rattle.frz_commands_why.specs.Loading.{LoadsTables, RefusesTables, WithinOwn}
 use Rattle.frz_commands_why.specs.Telling.{EndsWhy, telling_steps, why_text}
 use Rattle.frz_commands_why.specs.Texts.{status_by}
-use Rattle.frz_commands_why.specs.WhyOf.{IsWhyAnswer, IsWhyAt, IsWhyBy, IsWhyOver, code_at, decider_behind, value_behind}
+use Rattle.frz_commands_why.specs.WhyOf.{IsWhyAnswer, IsWhyAt, IsWhyOver, code_at, decider_behind, value_behind}
 use Rattle.frz_commands_why.proofs.OneTelling.{WayThere, told_there}
-
-abbrev Opened : Type 0
-Opened = Result (List TableBytes) (ℕ × TableFault)
-
--- the answer by what the names hold
-module _ (table : List ℕ) (behind : List (List ℕ)) (side : Colour) (p : Board) (files : Files)
-    (held : Option (List ℕ)) (helds : List (Option (List ℕ))) (here : files table ≡ held)
-    (others : map files behind ≡ helds) where
-  answer_at : (a : Answer) (x : Result Contents TableFault) (y : Opened)
-      → opened_own held ≡ x → opened_all helds ≡ y
-      → IsWhyBy x (unwrap_or held []) y side p files a → IsWhyAt table behind side p files a
-  answer_at a x y opens are h =
-      subst (λ (o : Option (List ℕ)). IsWhyBy (opened_own o) (unwrap_or o [])
-      (opened_all (map files behind)) side p files a) (sym here)
-      (subst (λ (l : List (Option (List ℕ))). IsWhyBy (opened_own held) (unwrap_or held [])
-      (opened_all l) side p files a) (sym others)
-      (subst (λ (r : Result Contents TableFault). IsWhyBy r (unwrap_or held []) (opened_all helds)
-      side p files a) (sym opens)
-      (subst (λ (r : Opened). IsWhyBy x (unwrap_or held []) r side p files a) (sym are) h)))
 
 -- each answer says something
 line_said : (side : Colour) (code : ℕ) (text : List ℕ) (wrong : Option WrongEntry)
@@ -85,9 +64,9 @@ abbrev outside_answer : Files → Answer
 outside_answer files = says (status_of refusals.Outside) (refusal_line refusals.Outside) files
 
 module _ (there : WayThere) (side : Colour) (p : Board) (files : Files) where
-  some_over : (contents : Contents) (bytes : List ℕ) (tables : List TableBytes)
-      → SomeAnswer (IsWhyOver contents bytes tables side p files)
-  some_over contents bytes tables = by_member (is_member contents.rules.groups p)
+  pub some_opened : (contents : Contents) (bytes : List ℕ) (tables : List TableBytes)
+      → SomeAnswer (IsWhyOver side p files contents bytes tables)
+  some_opened contents bytes tables = by_member (is_member contents.rules.groups p)
     where
       by_member : (b : Bool) → SomeAnswer (λ a. MatchBool b
           (IsWhyAnswer contents bytes tables side p files a) (a ≡ outside_answer files))
@@ -112,25 +91,9 @@ module _ (there : WayThere) (side : Colour) (p : Board) (files : Files) where
         text = refusal_said refusals.Outside;
       }
 
-  some_by : (x : Result Contents TableFault) (bytes : List ℕ) (y : Opened)
-      → SomeAnswer (IsWhyBy x bytes y side p files)
-  some_by (Ok contents) bytes (Ok tables) = some_over contents bytes tables
-  some_by (Ok contents) bytes (Err refused) = record {
-    a = _;
-    answer = refl;
-    text = back_line_not_empty refused.0 (Refused refused.1);
-  }
-  some_by (Err fault) bytes y = record {
-    a = _;
-    answer = refl;
-    text = refusal_said (refusals.Table fault);
-  }
-
-  pub some_at : (table : List ℕ) (behind : List (List ℕ))
+  some_at : (table : List ℕ) (behind : List (List ℕ))
       → SomeAnswer (IsWhyAt table behind side p files)
-  some_at table behind =
-      some_by (opened_own (files table)) (unwrap_or (files table) [])
-      (opened_all (map files behind))
+  some_at table behind = some_over (IsWhyOver side p files) table behind files some_opened
 
 own_status : (wrong : Option WrongEntry) (table : List ℕ) (behind : List (List ℕ)) (side : Colour)
     (p : Board) → OneOf (status_by wrong) (asking_at table behind side p).statuses
@@ -151,47 +114,37 @@ module _ (there : WayThere) (table : List ℕ) (behind : List (List ℕ))
   mid = world new input out now
 
   spent_within_costs : (held : Option (List ℕ)) (helds : List (Option (List ℕ)))
-      (h : Holds old.files table behind held helds) → WithinOwn held helds old new
-      → now ≤ before + steps_by (opened_own held) (unwrap_or held []) side p
-      → WithinCosts (why_costs side p (h.all.files table) (map h.all.files behind)) (spent start)
-      (spent mid)
-  spent_within_costs held helds h within steps =
-      subst (λ (x : Option (List ℕ)). WithinCosts (why_costs side p x (map h.all.files behind))
-      (spent start) (spent mid)) (sym h.here)
-      (subst (λ (l : List (Option (List ℕ))). WithinCosts (why_costs side p held l) (spent start)
-      (spent mid)) (sym h.others)
-      (record { steps = steps; calls = within.calls; asked = within.asked }))
-
-  -- some answer over what the names hold
-  some_answer_begun : (held : Option (List ℕ)) (helds : List (Option (List ℕ)))
-      (h : Holds old.files table behind held helds) → WithinOwn held helds old new
-      → now ≤ before + steps_by (opened_own held) (unwrap_or held []) side p
-      → (files : Files) (left : List ℕ) → Agrees start files left
-      → Begun job files left start mid
-  some_answer_begun held helds h within steps files left agrees = record {
-    found = found_where job h.all.files files left start (λ e. cc) h.all.agrees agrees;
-    some = some_at there side p h.all.files table behind;
-    costs = spent_within_costs held helds h within steps;
-  }
+      → WithinReading held helds old new
+      → now ≤ before + steps_by (opened_own held) (unwrap_or held []) side p → (m : Files)
+      → m table ≡ held → map m behind ≡ helds
+      → WithinCosts (why_costs side p (m table) (map m behind)) (spent start) (spent mid)
+  spent_within_costs held helds within steps m here others =
+      within_held (why_costs side p) held (m table) helds (map m behind) here others (spent start)
+      (spent mid) (record { steps = steps; calls = within.calls; asked = within.asked })
 
   -- the tables were loaded
-  module _ (given : BackTable) (backs : List BackTable)
-      (l : LoadsTables table behind old new given backs)
-      (steps : now ≤ before + stepping_in given side p) where
+  module _ (given : LoadedAtlas) (l : LoadsAtlas table behind old new given)
+      (steps : now ≤ before + stepping_in given.table side p) where
+    abbrev own : BackTable
+    own = given.table
+
+    abbrev backs : List BackTable
+    backs = given.backs.items
+
     abbrev contents : Contents
-    contents = contents_of given.table
+    contents = contents_of own.table
 
     abbrev h : Holds old.files table behind (Some l.bytes) (all_held l.tables)
     h = apart_names_hold old.files table behind apart (Some l.bytes) (all_held l.tables) l.may
         l.may_all
 
-    leans_as_its_bytes : leans_as given.table.kind ≡ leans l.bytes
+    leans_as_its_bytes : leans_as own.table.kind ≡ leans l.bytes
     leans_as_its_bytes = ap (λ (k : Link). k.leans) l.keeps
 
     same_backs : map loaded_back backs ≡ backs_in l.tables
     same_backs = sym (loaded_backs backs) ∙ kept_backs (map link_loaded backs) l.tables l.all_keep
 
-    same_codes : codes_loaded given ≡ kept_codes contents l.bytes
+    same_codes : codes_loaded own ≡ kept_codes contents l.bytes
     same_codes =
         ap (λ (k : Link). λ (s : Colour). of_side s k.back.white k.back.black) l.keeps
         ∙ (λ i s. by_side s i)
@@ -204,7 +157,7 @@ module _ (there : WayThere) (table : List ℕ) (behind : List (List ℕ))
 
     -- what was told by the loaded tables is told by those in the files
     by_files : (number : ℕ) (end : End) (after : SinkTold)
-        → EndsLoaded given backs side number end out after
+        → EndsLoaded own backs side number end out after
         → EndsWhy contents.rules (value_behind contents l.bytes l.tables) side
         (kept_codes contents l.bytes) (decider_behind contents l.bytes l.tables) number end out
         after
@@ -213,10 +166,10 @@ module _ (there : WayThere) (table : List ℕ) (behind : List (List ℕ))
         (value_behind contents l.bytes l.tables) side c
         (decider_behind contents l.bytes l.tables) number end out after) same_codes
         (subst (λ (b : List Back). EndsWhy contents.rules
-        (value_over (leans l.bytes) contents.rules b) side (codes_loaded given)
+        (value_over (leans l.bytes) contents.rules b) side (codes_loaded own)
         (decider_of (leans l.bytes) (exit_numbers_of contents.text) contents.rules b) number end out after) same_backs
         (subst (λ (t : Bool). EndsWhy contents.rules
-        (value_over t contents.rules (map loaded_back backs)) side (codes_loaded given)
+        (value_over t contents.rules (map loaded_back backs)) side (codes_loaded own)
         (decider_of t (exit_numbers_of contents.text) contents.rules (map loaded_back backs)) number end out after) leans_as_its_bytes ends))
 
     same_steps : now ≤ before + steps_by (opened_own (Some l.bytes)) l.bytes side p
@@ -228,24 +181,37 @@ module _ (there : WayThere) (table : List ℕ) (behind : List (List ℕ))
         (length (legal_moves_of p)) else 0) same_codes
         ∙ sym (ap (λ (x : Result Contents TableFault). steps_by x l.bytes side p) l.opens)) steps
 
-    says_so : (a : Answer) (files : Files) → (left : List ℕ) → Agrees start files left
-        → IsWhyOver contents l.bytes l.tables side p h.all.files a
+    abbrev costs_kept : WithinCosts (why_costs side p (h.all.files table) (map h.all.files behind))
+        (spent start) (spent mid)
+    costs_kept =
+        spent_within_costs (Some l.bytes) (all_held l.tables) l.within same_steps h.all.files h.here
+        h.others
+
+    says_so : (a : Answer) → IsWhyOver side p h.all.files contents l.bytes l.tables a
         → IsWhyAt table behind side p h.all.files a
-    says_so a files left agrees over =
-        answer_at table behind side p h.all.files (Some l.bytes) (all_held l.tables) h.here
-        h.others a (Ok contents) (Ok l.tables) l.opens l.all_open over
+    says_so a over =
+        over_held (IsWhyOver side p h.all.files) table behind h.all.files (Some l.bytes)
+        (all_held l.tables) h.here h.others (Ok contents) (Ok l.tables) l.opens l.all_open a over
+
+    -- some answer over what the names hold
+    begun : (files : Files) (left : List ℕ) → Agrees start files left → Begun job files left start mid
+    begun files left agrees = record {
+      found = found_where job h.all.files files left start (λ e. cc) h.all.agrees agrees;
+      some = some_at there side p h.all.files table behind;
+      costs = costs_kept;
+    }
 
     by_member : (b : Bool) → is_member contents.rules.groups p ≡ b → (end : End)
         (after : SinkTold) → StoreFine old new
         → MatchBool b (EndsEarly end out after
-        ⊎ EndsLoaded given backs side (Num contents.rules.groups p) end out after)
+        ⊎ EndsLoaded own backs side (Num contents.rules.groups p) end out after)
         (Said (status_of refusals.Outside) (refusal_line refusals.Outside) end out after)
         → Ran job end start (world new input after now)
     by_member true inside end after fine (inl early) =
         subst (λ (o : SinkTold). Ran job end start (world new input o now)) (sym early.1)
         (subst (λ (e : End). Ran job e start mid) (sym early.0)
         (stopped job stops.NoMemory start mid (quiet_both old new input out before now quiet later)
-        refl (some_answer_begun (Some l.bytes) (all_held l.tables) h l.within same_steps)))
+        refl begun))
     by_member true inside end after fine (inr ends) =
         let told = by_files (Num contents.rules.groups p) end after ends in
         said job (status_by told.wrong)
@@ -255,7 +221,7 @@ module _ (there : WayThere) (table : List ℕ) (behind : List (List ℕ))
         (own_status told.wrong table behind side p) told.said
         (λ files left agrees. record {
           found = found_where job h.all.files files left start (λ e. cc) h.all.agrees agrees;
-          answer = says_so _ files left agrees
+          answer = says_so _
               (subst (λ (b : Bool). MatchBool b
               (IsWhyAnswer contents l.bytes l.tables side p h.all.files
               (says (status_by told.wrong)
@@ -265,7 +231,7 @@ module _ (there : WayThere) (table : List ℕ) (behind : List (List ℕ))
               (why_text side (code_at contents l.bytes side p) told.text told.wrong) h.all.files
               ≡ outside_answer h.all.files)) (sym inside)
               (record { text = told.text; wrong = told.wrong; told = told.told; is = refl }));
-          costs = spent_within_costs (Some l.bytes) (all_held l.tables) h l.within same_steps;
+          costs = costs_kept;
         })
     by_member false inside end after fine refused =
         said job (status_of refusals.Outside) (refusal_line refusals.Outside) end start mid after
@@ -273,71 +239,38 @@ module _ (there : WayThere) (table : List ℕ) (behind : List (List ℕ))
         (fine_store old new input out before now fine) refl refused
         (λ files left agrees. record {
           found = found_where job h.all.files files left start (λ e. cc) h.all.agrees agrees;
-          answer = says_so _ files left agrees
+          answer = says_so _
               (subst (λ (b : Bool). MatchBool b
               (IsWhyAnswer contents l.bytes l.tables side p h.all.files
               (outside_answer h.all.files))
               (outside_answer h.all.files ≡ outside_answer h.all.files)) (sym inside) refl);
-          costs = spent_within_costs (Some l.bytes) (all_held l.tables) h l.within same_steps;
+          costs = costs_kept;
         })
 
     pub why_is_told : (end : End) (after : SinkTold) → StoreFine old new
-        → EndsIn given backs side p end out after → Ran job end start (world new input after now)
+        → EndsIn own backs side p end out after → Ran job end start (world new input after now)
     why_is_told end after fine ends =
         by_member (is_member contents.rules.groups p) refl end after fine ends
 
   -- something is refused, or could not be read
-  module _ (fault : AtlasFault) (r : RefusesTables table behind old new fault)
+  module _ (fault : AtlasFault) (r : RefusesToRead table behind old new fault)
       (steps : now ≤ before) where
-    abbrev k : Holds old.files table behind r.held r.helds
-    k = apart_names_hold old.files table behind apart r.held r.helds r.may r.may_all
-
     no_steps : now ≤ before + steps_by (opened_own r.held) (unwrap_or r.held []) side p
     no_steps = omega arith
 
-    refused_within_costs : WithinCosts
-        (why_costs side p (k.all.files table) (map k.all.files behind))
-        (spent start) (spent mid)
-    refused_within_costs = spent_within_costs r.held r.helds k r.within no_steps
-
-    refusal_begun : (files : Files) (left : List ℕ) → Agrees start files left
-        → Begun job files left start mid
-    refusal_begun = some_answer_begun r.held r.helds k r.within no_steps
-
-    may_end : (f : AtlasFault) → IsUnopened opened_own r.held r.helds f
-        → HasAtlasCause {T = ℕ} (Err f) old new → MayEndAt job f start mid
-    may_end (Rules f) refused cause = absurd refused
-    may_end (Table f) refused cause =
-        (table_own f job.statuses refl refl, fine_store old new input out before now cause)
-    may_end (BackAt place (Refused f)) refused cause =
-        (table_own f job.statuses refl refl, fine_store old new input out before now cause)
-    may_end (BackAt place (Wrong wrong)) refused cause = absurd refused
-    may_end Failed refused cause = (refl, cause)
-    may_end NoMemory refused cause = refl
-
-    answers_at : (f : AtlasFault) → IsUnopened opened_own r.held r.helds f → (files : Files)
-        (left : List ℕ) → Agrees start files left → AnswersAt job f files left start mid
-    answers_at (Rules f) refused files left agrees = absurd refused
-    answers_at (Table f) refused files left agrees = record {
-      found = found_where job k.all.files files left start (λ e. cc) k.all.agrees agrees;
-      answer = answer_at table behind side p k.all.files r.held r.helds k.here k.others _ (Err f)
-          (opened_all r.helds) refused refl refl;
-      costs = refused_within_costs;
-    }
-    answers_at (BackAt place (Refused f)) refused files left agrees = record {
-      found = found_where job k.all.files files left start (λ e. cc) k.all.agrees agrees;
-      answer = answer_at table behind side p k.all.files r.held r.helds k.here k.others _
-          (Ok refused.0.0) (Err (place, f)) refused.0.1 refused.1 refl;
-      costs = refused_within_costs;
-    }
-    answers_at (BackAt place (Wrong wrong)) refused files left agrees = absurd refused
-    answers_at Failed refused files left agrees = refusal_begun files left agrees
-    answers_at NoMemory refused files left agrees = refusal_begun files left agrees
-
     pub refused_so : (end : End) (after : SinkTold)
-        → HasAtlasCause {T = ℕ} (Err fault) old new → EndsAt fault end out after
+        → HasAtlasCause {T = LoadedAtlas} (Err fault) old new → EndsAt fault end out after
         → Ran job end start (world new input after now)
-    refused_so end after cause ends =
-        ended_at job end start mid after (quiet_both old new input out before now quiet later) fault
-        (may_end fault r.refuses cause) ends
-        (λ files left agrees. answers_at fault r.refuses files left agrees)
+    refused_so =
+        unread_ran job table behind (λ m left. IsWhyOver side p m)
+        (record {
+          reads = λ e. cc;
+          store = refl;
+          memory = refl;
+          missing = refl;
+          refused = refl;
+          gives = λ m left a h. h;
+          some = λ m left. some_opened there side p m;
+        })
+        apart old new before now quiet later input out fault r
+        (λ m left a here others. spent_within_costs r.held r.helds r.within no_steps m here others)

@@ -1,7 +1,6 @@
 -- What the answers of `why` mean.
-use Rattle.std.proofs.Common.{◌≡◌, refl, sym, ap, subst, ◌∙◌, ℕ, ◌+◌, ◌*◌, ◌-◌, ◌/◌, Bool, true, false, List, [], ◌++◌, length, Option, Some, None, Result, Ok, Err, append-nil, slice_index, arith}
+use Rattle.std.proofs.Common.{◌≡◌, refl, sym, ap, subst, ◌∙◌, ℕ, ◌+◌, ◌*◌, ◌-◌, ◌/◌, Bool, true, false, List, [], ◌++◌, length, Option, Some, None, Ok, append-nil, slice_index, arith}
 use Rattle.std.specs.Prelude.{map, MatchBool}
-use Rattle.std.specs.Option.{unwrap_or}
 use Rattle.std.proofs.lemmas.Bool.Decides.{nat_tests}
 use Rattle.frz_board.specs.Boards.{Board}
 use Rattle.frz_board.specs.Men.{other_of}
@@ -20,26 +19,23 @@ use Rattle.frz_game.specs.Bounds.{IsTableOf}
 use Rattle.frz_game.specs.Games.{graph_by}
 use Rattle.frz_game.specs.Numbers.{is_member, position_at}
 use Rattle.frz_game.specs.declared.wrong.Wrong.{Wrong as WrongEntry}
-use Rattle.frz_store.specs.Files.{Files, bytes_at}
-use Rattle.frz_table.specs.declared.fault.TableFault.{TableFault}
-use Rattle.frz_table.specs.declared.fault.TableFault.TheVariants as table_faults
+use Rattle.frz_store.specs.Files.{Files}
 use Rattle.frz_table.specs.Opening.{Contents, own_format}
-use Rattle.frz_table.proofs.Lemmas.{belongs, opened_missing}
+use Rattle.frz_table.proofs.Lemmas.{belongs}
 use Rattle.frz_check.specs.Kept.{kept_codes}
 use Rattle.frz_check.specs.KeptTables.{KeepsBound, KeepsTables}
 use Rattle.frz_check.proofs.Lemmas.{bound_kept}
-use Rattle.frz_backs.specs.Books.{Back}
-use Rattle.frz_backs.specs.Links.{value_over}
 use Rattle.frz_atlas.specs.Behind.{TableBytes, backs_in, leans}
-use Rattle.frz_atlas.specs.Loading.{opened_all, opened_own}
+use Rattle.frz_atlas.specs.Loading.{opened_all}
 use Rattle.frz_answer.specs.declared.status.Status.{Status}
 use Rattle.frz_answer.specs.declared.status.Status.TheVariants as statuses
 use Rattle.frz_answer.specs.Answers.{Answer, says}
 use Rattle.frz_bound_lines.specs.BoundLines.{kept_line}
 use Rattle.frz_prelude.specs.Refusals.{refusal_line, status_of}
 use Rattle.frz_prelude.specs.declared.refused.Refused.TheVariants as refusals
-use Rattle.frz_prelude.proofs.Lemmas.{by_table_status}
-use Rattle.frz_atlas_prelude.proofs.Lemmas.{result_is_not_both}
+use Rattle.frz_atlas_prelude.specs.OwnFiles.{OpensAsOwn}
+use Rattle.frz_atlas_prelude.specs.TableRefusals.{TellsRefusal}
+use Rattle.frz_atlas_prelude.proofs.Lemmas.{means_over, refusal_says}
 use Rattle.frz_reasons.specs.declared.denial.Denial.{Denial}
 use Rattle.frz_reasons.specs.declared.reason.Reason.{Reason}
 use Rattle.frz_reasons.specs.declared.reason.Reason.TheVariants.{Wrong, Mated, Renounced, Left}
@@ -49,10 +45,10 @@ use Rattle.frz_reasons.specs.FailingWays.{FailsFrom}
 use Rattle.frz_reasons.specs.ReasonTexts.{denials_text, moves_text}
 use Rattle.frz_commands_why.specs.declared.decider.Decider.{Decider}
 use Rattle.frz_commands_why.specs.Decides.{Decides}
-use Rattle.frz_commands_why.specs.Meaning.{MeansStatus, MeansWhy, Opens, TellsAll, TellsBound, TellsNone, of_back, of_table, wins as wins_told, holds as hold_told, fails as failure_told}
+use Rattle.frz_commands_why.specs.Meaning.{MeansStatus, MeansWhy, Opens, TellsAll, TellsBound, TellsNone, wins as wins_told, holds as hold_told, fails as failure_told}
 use Rattle.frz_commands_why.specs.Telling.{ToldAt, ToldFailure, ToldOpponent, fails, has_bound, has_none, holds, met_wrong, neither, on_way, why_text, wins}
 use Rattle.frz_commands_why.specs.Texts.{end_text, status_by, wrong_in}
-use Rattle.frz_commands_why.specs.WhyOf.{IsWhyAnswer, IsWhyAt, IsWhyBehind, IsWhyBy, code_at, decider_behind, value_behind}
+use Rattle.frz_commands_why.specs.WhyOf.{IsWhyAnswer, IsWhyAt, IsWhyOver, code_at, decider_behind, value_behind}
 use Rattle.frz_commands_why.proofs.BestWay.{BestLaws, best_way}
 use Rattle.frz_commands_why.proofs.Deciders.{decider_decides}
 use Rattle.frz_commands_why.proofs.DenialsTell.{denials_are, none_wrong}
@@ -382,43 +378,25 @@ module _ (laws : WayLaws) (table : List ℕ) (behind : List (List ℕ)) (side : 
         told = ap (λ (x : Answer). x.text) h;
       })
 
-  abbrev Opened : Type 0
-  Opened = Result (List TableBytes) (ℕ × TableFault)
-
-  by_behind : (bytes : List ℕ) (contents : Contents) → files table ≡ Some bytes
-      → opened_own (Some bytes) ≡ Ok contents → (y : Opened) → opened_all (map files behind) ≡ y
-      → IsWhyBehind contents bytes y side p files a → MeansWhy table behind side p files a
-  by_behind bytes contents there opens (Ok tables) are h =
+  opened_means : (bytes : List ℕ) (contents : Contents) (tables : List TableBytes)
+      → OpensAsOwn table files bytes contents → opened_all (map files behind) ≡ Ok tables
+      → IsWhyOver side p files contents bytes tables a → MeansWhy table behind side p files a
+  opened_means bytes contents tables open_file are h =
       by_member (record {
         bytes = bytes;
         contents = contents;
-        open_file = record { there = there; opens = opens };
+        open_file = open_file;
         tables = tables;
         all_open = are;
-      }) (belongs own_format bytes contents opens).read
+      }) (belongs own_format bytes contents open_file.opens).read
       (is_member contents.rules.groups p) refl h
-  by_behind bytes contents there opens (Err refused) are h =
-      let refuses = of_back (contents, ap opened_own there ∙ opens) refused.0 refused.1 are h in
-      means_so _ _ h (by_table_status (λ s. MeansStatus table behind side p files a s) refused.1
-      refuses refuses)
 
-  by_held : (held : Option (List ℕ)) → files table ≡ held → (contents : Contents)
-      → opened_own held ≡ Ok contents
-      → IsWhyBehind contents (unwrap_or held []) (opened_all (map files behind)) side p files a
-      → MeansWhy table behind side p files a
-  by_held None there contents opens h =
-      absurd (result_is_not_both _ contents table_faults.Missing opens (opened_missing _))
-  by_held (Some bytes) there contents opens h =
-      by_behind bytes contents there opens (opened_all (map files behind)) refl h
-
-  by_opening : (x : Result Contents TableFault) → opened_own (files table) ≡ x
-      → IsWhyBy x (bytes_at files table) (opened_all (map files behind)) side p files a
-      → MeansWhy table behind side p files a
-  by_opening (Ok contents) opens h = by_held (files table) refl contents opens h
-  by_opening (Err fault) opens h =
-      let refuses = of_table fault opens h in
-      means_so _ _ h (by_table_status (λ s. MeansStatus table behind side p files a s) fault refuses
-      refuses)
+  refused_means : TellsRefusal table behind files a → MeansWhy table behind side p files a
+  refused_means r =
+      let says = refusal_says (λ s. MeansStatus table behind side p files a s) r r r in
+      record { same = says.0; untaken = says.1; says = says.2 }
 
   pub why_means : IsWhyAt table behind side p files a → MeansWhy table behind side p files a
-  why_means h = by_opening (opened_own (files table)) refl h
+  why_means =
+      means_over (IsWhyOver side p files) table behind files a (MeansWhy table behind side p files a)
+      opened_means refused_means

@@ -11,7 +11,7 @@ use Rattle.frz_table.specs.declared.fault.TableFault.{TableFault}
 use Rattle.frz_table.specs.Opening.{Contents}
 use Rattle.frz_atlas.specs.Loading.{opened_own}
 use Rattle.frz_answer.specs.Jobs.{Costs}
-use Rattle.frz_commands_why.specs.Loading.{own_bytes, own_calls}
+use Rattle.frz_atlas_prelude.specs.Costs.{loading_bytes, loading_calls}
 use Rattle.frz_commands_why.specs.Telling.{telling_steps}
 use Rattle.frz_commands_why.specs.WhyOf.{code_at}
 
@@ -30,6 +30,6 @@ steps_by (Err fault) bytes side p = 0
 abbrev pub why_costs : Colour → Board → Option (List ℕ) → List (Option (List ℕ)) → Costs
 why_costs side p held behind = record {
   steps = Some (steps_by (opened_own held) (unwrap_or held []) side p);
-  calls = Some (own_calls held behind);
-  asked = Some (own_bytes held behind);
+  calls = Some (loading_calls held behind);
+  asked = Some (loading_bytes held behind);
 }

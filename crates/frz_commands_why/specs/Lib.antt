@@ -3,7 +3,6 @@ pub mod Deciders
 pub mod Decides
 pub mod Texts
 pub mod Telling
-pub mod Loading
 pub mod Ending
 pub mod WhyOf
 pub mod Costs

@@ -1,5 +1,5 @@
 -- What the answers of `why` mean.
-use Rattle.std.specs.Prelude.{◌≡◌, ◌++◌, ℕ, List, [], map, length, MatchBool, Some, Ok, Err, codes}
+use Rattle.std.specs.Prelude.{◌≡◌, ◌++◌, ℕ, List, [], map, length, MatchBool, Some, Ok, codes}
 use Rattle.frz_board.specs.declared.man.Colour.{Colour}
 use Rattle.frz_board.specs.Boards.{Board}
 use Rattle.frz_board.specs.Men.{other_of}
@@ -12,21 +12,17 @@ use Rattle.frz_arena.specs.declared.bound.Bound.TheVariants.{Wins, Holds, Fails}
 use Rattle.frz_arena.specs.Codes.{code_of, is_failure}
 use Rattle.frz_game.specs.Games.{graph_by}
 use Rattle.frz_game.specs.declared.wrong.Wrong.{Wrong as WrongEntry}
-use Rattle.frz_table.specs.declared.fault.TableFault.{TableFault}
 use Rattle.frz_table.specs.Opening.{Contents}
 use Rattle.frz_check.specs.Kept.{kept_codes}
 use Rattle.frz_check.specs.KeptTables.{KeepsBound, KeepsTables}
 use Rattle.frz_atlas.specs.Behind.{TableBytes, backs_in, leans}
-use Rattle.frz_atlas.specs.Loading.{opened_all, opened_own}
-use Rattle.frz_atlas.specs.declared.fault.BackFault.TheVariants.{Refused}
+use Rattle.frz_atlas.specs.Loading.{opened_all}
 use Rattle.frz_answer.specs.declared.status.Status.{Status}
 use Rattle.frz_answer.specs.declared.status.Status.TheVariants.{Success, Wrong, Table, Outside, Missing}
-use Rattle.frz_answer.specs.Answers.{Answer, says}
+use Rattle.frz_answer.specs.Answers.{Answer}
 use Rattle.frz_bound_lines.specs.BoundLines.{kept_line}
-use Rattle.frz_prelude.specs.Refusals.{table_status}
-use Rattle.frz_prelude.specs.TableCauses.{table_line}
 use Rattle.frz_atlas_prelude.specs.OwnFiles.{OpensAsOwn}
-use Rattle.frz_atlas_prelude.specs.BackLines.{back_line}
+use Rattle.frz_atlas_prelude.specs.TableRefusals.{TellsRefusal}
 use Rattle.frz_reasons.specs.declared.denial.Denial.{Denial}
 use Rattle.frz_reasons.specs.declared.reason.Reason.{Reason}
 use Rattle.frz_reasons.specs.declared.reason.Reason.TheVariants.{Left}
@@ -36,7 +32,6 @@ use Rattle.frz_reasons.specs.ReasonTexts.{denials_text, moves_text}
 use Rattle.frz_commands_why.specs.Best.{AreBest}
 use Rattle.frz_commands_why.specs.Decides.{Decides}
 use Rattle.frz_commands_why.specs.Denying.{AreDenials}
-use Rattle.frz_commands_why.specs.Loading.{OpensOwn}
 use Rattle.frz_commands_why.specs.Telling.{why_text}
 use Rattle.frz_commands_why.specs.Texts.{end_text}
 use Rattle.frz_commands_why.specs.WhyOf.{IsToldOf, code_at, decider_behind, value_behind}
@@ -142,18 +137,6 @@ pub record TellsOutside (table : List ℕ) (behind : List (List ℕ)) (p : Board
   pub open_all : Opens table behind files
   pub outside : Member open_all.contents.rules.groups p → ⊥
   pub told : text ≡ codes "outside\n"
-
--- TABLE is refused, or it opens and the BACK at this place is the first that is refused; the line
--- counts places from 1
-pub data TellsRefusal (table : List ℕ) (behind : List (List ℕ)) (files : Files) (a : Answer) :
-    Type 0 where
-  of_table : (fault : TableFault) → opened_own (files table) ≡ Err fault →
-      a ≡ says (table_status fault) (table_line fault) files →
-      TellsRefusal table behind files a
-  of_back : OpensOwn (files table) → (place : ℕ) (fault : TableFault) →
-      opened_all (map files behind) ≡ Err (place, fault) →
-      a ≡ says (table_status fault) (back_line place (Refused fault)) files →
-      TellsRefusal table behind files a
 
 -- what an answer says, by its status
 abbrev pub MeansStatus : List ℕ → List (List ℕ) → Colour → Board → Files → Answer → Status → Type 0

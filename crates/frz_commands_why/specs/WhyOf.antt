@@ -1,24 +1,20 @@
 -- What `why TABLE FEN SIDE BACK ..` answers, by what the names hold. No file changes.
-use Rattle.std.specs.Prelude.{◌≡◌, ℕ, List, map, slice_index, MatchBool, Option, Result, Ok, Err}
+use Rattle.std.specs.Prelude.{◌≡◌, ℕ, List, slice_index, MatchBool, Option}
 use Rattle.frz_board.specs.declared.man.Colour.{Colour}
 use Rattle.frz_board.specs.Boards.{Board}
 use Rattle.frz_sets.specs.declared.exit.Value.{Value}
 use Rattle.frz_index.specs.Members.{Num}
 use Rattle.frz_game.specs.Numbers.{is_member}
 use Rattle.frz_game.specs.declared.wrong.Wrong.{Wrong}
-use Rattle.frz_store.specs.Files.{Files, bytes_at}
-use Rattle.frz_table.specs.declared.fault.TableFault.{TableFault}
+use Rattle.frz_store.specs.Files.{Files}
 use Rattle.frz_table.specs.Opening.{Contents}
 use Rattle.frz_check.specs.Kept.{kept_codes}
 use Rattle.frz_backs.specs.Links.{value_over}
 use Rattle.frz_atlas.specs.Behind.{TableBytes, backs_in, leans}
-use Rattle.frz_atlas.specs.Loading.{opened_all, opened_own}
-use Rattle.frz_atlas.specs.declared.fault.BackFault.TheVariants.{Refused}
 use Rattle.frz_answer.specs.Answers.{Answer, says}
-use Rattle.frz_prelude.specs.Refusals.{refusal_line, status_of, table_status}
-use Rattle.frz_prelude.specs.TableCauses.{table_line}
+use Rattle.frz_prelude.specs.Refusals.{refusal_line, status_of}
 use Rattle.frz_prelude.specs.declared.refused.Refused.TheVariants as refusals
-use Rattle.frz_atlas_prelude.specs.BackLines.{back_line}
+use Rattle.frz_atlas_prelude.specs.Over.{IsAnswerOver}
 use Rattle.frz_exit_lines.specs.Numbers.{exit_numbers_of}
 use Rattle.frz_commands_why.specs.declared.decider.Decider.{Decider}
 use Rattle.frz_commands_why.specs.Deciders.{decider_of}
@@ -59,29 +55,13 @@ pub record IsWhyAnswer (contents : Contents) (bytes : List ℕ) (tables : List T
       (why_text side (code_at contents bytes side p) text wrong) files
 
 -- the answer where TABLE and the BACKs open: a position outside the set is refused
-abbrev pub IsWhyOver : Contents → (bytes : List ℕ) → List TableBytes → Colour → Board → Files →
+abbrev pub IsWhyOver : Colour → Board → Files → Contents → (bytes : List ℕ) → List TableBytes →
     Answer → Type 0
-IsWhyOver contents bytes tables side p files a = MatchBool (is_member contents.rules.groups p)
+IsWhyOver side p files contents bytes tables a = MatchBool (is_member contents.rules.groups p)
     (IsWhyAnswer contents bytes tables side p files a)
     (a ≡ says (status_of refusals.Outside) (refusal_line refusals.Outside) files)
-
--- the answer by how the files open: TABLE is refused first, and then the first BACK that is
-abbrev pub IsWhyBehind : Contents → (bytes : List ℕ) → Result (List TableBytes) (ℕ × TableFault) →
-    Colour → Board → Files → Answer → Type 0
-IsWhyBehind contents bytes (Ok tables) side p files a =
-    IsWhyOver contents bytes tables side p files a
-IsWhyBehind contents bytes (Err refused) side p files a =
-    a ≡ says (table_status refused.1) (back_line refused.0 (Refused refused.1)) files
-
-abbrev pub IsWhyBy : Result Contents TableFault → (bytes : List ℕ) →
-    Result (List TableBytes) (ℕ × TableFault) → Colour → Board → Files → Answer → Type 0
-IsWhyBy (Ok contents) bytes behind side p files a =
-    IsWhyBehind contents bytes behind side p files a
-IsWhyBy (Err fault) bytes behind side p files a =
-    a ≡ says (table_status fault) (table_line fault) files
 
 -- the answer of `why` on the file that has the name and those that have the names behind it
 abbrev pub IsWhyAt : List ℕ → List (List ℕ) → Colour → Board → Files → Answer → Type 0
 IsWhyAt table behind side p files a =
-    IsWhyBy (opened_own (files table)) (bytes_at files table) (opened_all (map files behind)) side p
-    files a
+    IsAnswerOver (IsWhyOver side p files) table behind files a

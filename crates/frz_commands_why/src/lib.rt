@@ -4,11 +4,9 @@
 
 mod decider;
 pub mod laws;
-mod loading;
 mod telling;
 mod texts;
 mod why;
 
 pub use decider::{Decider, Deciding};
-pub use loading::load_tables;
 pub use why::run_why;

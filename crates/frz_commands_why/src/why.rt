@@ -25,9 +25,9 @@ ghost use Rattle.frz_commands_why.specs.Ending.{EndsIn, EndsLoaded, codes_loaded
 ghost use Rattle.frz_commands_why.specs.Telling.{EndsWhy, telling_steps};
 
 use crate::decider::Deciding;
-use crate::loading::load_tables;
 use crate::telling::tell_why;
 use frz_answer::{End, Fault, refuse};
+use frz_atlas::load_atlas;
 use frz_atlas_prelude::{Asked, asked_names, end_at};
 use frz_backs::{AtlasBook, BackTable};
 use frz_board::{Colour, Position};
@@ -172,8 +172,8 @@ fn why_at<S: Store, O: Sink, L: Ledger>(
         (world (store_of S.Store store.new) input (sink_of O.Sink out.new) steps.new) }
 {
     one_failing_way();
-    match load_tables(alloc, store, table, behind) {
-        Ok((own, backs)) => why_in(alloc, &own, &backs, side, p, out, steps),
+    match load_atlas(alloc, store, table, behind) {
+        Ok(loaded) => why_in(alloc, &loaded.table, &loaded.backs, side, p, out, steps),
         Err(fault) => end_at(fault, out),
     }
 }

@@ -17,6 +17,7 @@ pub use Rattle.frz_prelude.proofs.Stopping.{
   MayStop,
   StopsWith,
   ended,
+  file_said,
   found_where,
   may_stop,
   refusal_said,

@@ -50,7 +50,7 @@ other_said others.Former e = cc
 other_said others.Older e = cc
 
 -- each fault of a file is said, whatever word names the file
-file_said : (word : List ℕ) (fault : TableFault) → file_line word fault ≡ [] → ⊥
+pub file_said : (word : List ℕ) (fault : TableFault) → file_line word fault ≡ [] → ⊥
 file_said word table.Missing e = cc
 file_said word table.Magic e = behind_said word _ (λ none. cc) e
 file_said word (table.Other other) e = behind_said word _ (λ none. other_said other none) e

@@ -1,4 +1,5 @@
 pub mod Causes
+pub mod FileWords
 pub mod TableCauses
 pub mod TableFiles
 pub mod WrongLines

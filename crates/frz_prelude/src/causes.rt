@@ -5,6 +5,7 @@ ghost use Rattle.frz_answer.specs.Texts.{WroteText};
 ghost use Rattle.frz_prelude.specs.Causes.{shape_cause, invalid_cause, fen_cause, fen_line, rules_cause, rules_line};
 ghost use Rattle.frz_prelude.specs.Refusals.{refusal_line as line_of};
 
+use crate::file_word::FileWord;
 use crate::refused::Refused;
 use crate::table_causes::write_file_fault;
 use crate::wrong_lines::write_back_wrong;
@@ -97,8 +98,8 @@ pub fn write_refusal<O: Sink>(why: Refused, out: &mut O) -> Result<(), Failed>
         Refused::Fen(fault) => write_fen_fault(fault, out),
         Refused::MissingRules => write_piece(b"missing rules\n", out),
         Refused::Rules(fault) => write_rules_fault(fault, out),
-        Refused::Table(fault) => write_file_fault(b"table", fault, out),
-        Refused::Back(fault) => write_file_fault(b"back", fault, out),
+        Refused::Table(fault) => write_file_fault(FileWord::Table, fault, out),
+        Refused::Back(fault) => write_file_fault(FileWord::Back, fault, out),
         Refused::BackWrong(wrong) => write_back_wrong(wrong, out),
         Refused::Outside => write_piece(b"outside\n", out),
     }

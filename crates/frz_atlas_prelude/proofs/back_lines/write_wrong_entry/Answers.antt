@@ -1,18 +1,18 @@
 use Rattle.frz_answer.proofs.Lemmas.{failed_first, failed_next, gave_up, took_next, wrote_next}
 use Rattle.frz_atlas_prelude.proofs.back_lines.write_wrong_entry.Goals as goal
 
-pub returns-in_err-write_word : goal.returns-in_err-write_word
-returns-in_err-write_word g c =
+pub returns-in_err-write : goal.returns-in_err-write
+returns-in_err-write g c =
     gave_up c.from_residual.ensures.0
-    (failed_first _ (failed_first _ c.in_err-write_word.ensures.failed))
+    (failed_first _ (failed_first _ c.in_err-write.ensures.failed))
 
 pub returns-in_err-write_piece : goal.returns-in_err-write_piece
 returns-in_err-write_piece g c =
     gave_up c.from_residual-in_err-write_piece.ensures.0
-    (failed_first _ (failed_next c.in_ok-write_word.ensures.ok
+    (failed_first _ (failed_next c.in_ok-write.ensures.ok
     c.in_err-write_piece.ensures.failed))
 
 pub returns : goal.returns
 returns g c =
-    wrote_next (took_next c.in_ok-write_word.ensures.ok c.in_ok-write_piece.ensures.ok)
+    wrote_next (took_next c.in_ok-write.ensures.ok c.in_ok-write_piece.ensures.ok)
     c.write_wrong.ensures

@@ -1,18 +1,18 @@
 use Rattle.frz_answer.proofs.Lemmas.{failed_first, failed_next, gave_up, took_next, wrote_next}
 use Rattle.frz_prelude.proofs.table_causes.write_text_fault.Goals as goal
 
+pub returns-in_err-write : goal.returns-in_err-write
+returns-in_err-write g c =
+    gave_up c.from_residual.ensures.0
+    (failed_first _ (failed_first _ c.in_err-write.ensures.failed))
+
 pub returns-in_err-write_piece : goal.returns-in_err-write_piece
 returns-in_err-write_piece g c =
-    gave_up c.from_residual.ensures.0
-    (failed_first _ (failed_first _ c.in_err-write_piece.ensures.failed))
-
-pub returns-in_err-write_piece-2 : goal.returns-in_err-write_piece-2
-returns-in_err-write_piece-2 g c =
-    gave_up c.from_residual-in_err-write_piece-2.ensures.0
-    (failed_first _ (failed_next c.in_ok-write_piece.ensures.ok
-    c.in_err-write_piece-2.ensures.failed))
+    gave_up c.from_residual-in_err-write_piece.ensures.0
+    (failed_first _ (failed_next c.in_ok-write.ensures.ok
+    c.in_err-write_piece.ensures.failed))
 
 pub returns : goal.returns
 returns g c =
-    wrote_next (took_next c.in_ok-write_piece.ensures.ok c.in_ok-write_piece-2.ensures.ok)
+    wrote_next (took_next c.in_ok-write.ensures.ok c.in_ok-write_piece.ensures.ok)
     c.write_rules_fault.ensures

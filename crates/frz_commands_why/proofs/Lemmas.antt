@@ -1,2 +1,0 @@
--- The lemmas that the crates above cite.
-pub use Rattle.frz_commands_why.proofs.Loaded.{small_unloaded}
