@@ -18,3 +18,4 @@ mod RowsWith
 mod RowsRead
 mod EachRun
 mod BuiltKinds
+mod FirstExits

@@ -13,3 +13,5 @@ pub use Rattle.frz_atlas.specs.Behind
 pub use Rattle.frz_atlas.specs.FileOver
 pub use Rattle.frz_atlas_prelude.specs.Names
 pub use Rattle.frz_atlas_prelude.specs.declared.names.TheConstants as Limits
+pub mod InOrder
+pub mod FirstExits

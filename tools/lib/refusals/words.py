@@ -4,8 +4,8 @@ from lib.refusals.case import Case
 from lib.refusals.commands import MOST_BACKS, both, call
 from lib.refusals.faults import Fault
 from lib.refusals.fixtures import (
-    A_FILE, BOUNDS, CHAINED_FILE, FILES, IN_A, LINE_IN_A, L_FILE, MATE_IN_ONE, N_BELIEVED, N_FILE, OPEN_IN_A,
-    REPORT_OF_A, SAID_IN_A, SESSION_IN_A, files_of,
+    A_FILE, BOUNDS, CHAINED_FILE, FILES, FIRSTS_OF_A, FIRSTS_OF_L, IN_A, LINE_IN_A, L_FILE, MATE_IN_ONE, N_BELIEVED,
+    N_FILE, OPEN_IN_A, SAID_IN_A, SESSION_IN_A, files_of,
 )
 
 FREEZER = ("moves", "sans", "move", "solve", "build", "check", "query", "chain", "chaincheck", "chainquery", "line",
@@ -117,7 +117,7 @@ def many_backs():
             (("why", "L.t", IN_A, "white"), WINS, b"", {}),
             (("verdict", "L.t", IN_A), f"{IN_A}\nwhite wins\n{named}believed {count}\n", b"", {}),
             (("premises", "A"), believed, b"", {}),
-            (("report", "L.t"), "exits 37 KRk\nsqueezes 0 unassigned 37\n", b"", {}),
+            (("report", "L.t"), FIRSTS_OF_L, b"", {}),
             (("ask", "L.t"), ASKED_IN_L, OPEN_IN_A.encode(), {}),
         ):
             status, answer = (0, text) if count <= MOST_BACKS else (2, "words: count\n")
@@ -136,7 +136,7 @@ def without_backs():
         (("build", "A", "new"), "built 8\n", b"", {"new": A_FILE}), (("check", "A.t"), "exact 8\n", b"", {}),
         (("query", "A.t", IN_A), BOUNDS, b"", {}), (("query", "L.t", IN_A), BOUNDS, b"", {}),
         (("line", "A.t", IN_A, "white"), LINE_IN_A, b"", {}),
-        (("play", "A.t", IN_A, "white"), SESSION_IN_A, SAID_IN_A, {}), (("report", "A.t"), REPORT_OF_A, b"", {}),
+        (("play", "A.t", IN_A, "white"), SESSION_IN_A, SAID_IN_A, {}), (("report", "A.t"), FIRSTS_OF_A, b"", {}),
         (("each", "A.t", OPEN_IN_A), "Kc8 exit unknown\nKa8 white wins within 1, black none\n", b"", {}),
         (("ask", "A.t", "N.t"), "white wins within 1, black fails within 1\noutside\ninput ended\n",
          f"{MATE_IN_ONE}\n2k5/8/1K6/8/8/8/8/7R w - - 0 1\n".encode(), {}),
