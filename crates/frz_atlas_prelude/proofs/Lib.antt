@@ -10,3 +10,4 @@ mod FaultEnds
 mod NamesTaken
 mod OwnRefused
 mod WordsAsked
+mod WordsGiven
