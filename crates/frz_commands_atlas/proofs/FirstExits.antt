@@ -1,5 +1,5 @@
 -- The lines of first exits, written one by one.
-use Rattle.std.proofs.Common.{◌≡◌, refl, sym, ap, subst, ◌∙◌, ℕ, ◌+◌, ◌<◌, ◌≤◌, List, [], ◌∷◌, ◌++◌, take, drop, map, length, get_or, All, append-nil}
+use Rattle.std.proofs.Common.{◌≡◌, sym, ap, subst, ◌∙◌, ℕ, ◌+◌, ◌<◌, ◌≤◌, List, [], ◌∷◌, ◌++◌, take, drop, map, length, get_or, All, append-nil}
 use Rattle.std.specs.Prelude.{flat_map}
 use Rattle.std.proofs.lemmas.Grind.{flat_map-append}
 use Rattle.std.proofs.lemmas.List.{map-append, take-append-drop, take_all, take_more}
@@ -10,7 +10,6 @@ use Rattle.frz_fide.specs.Valid.{IsValid}
 use Rattle.frz_store.specs.Told.{SinkTold}
 use Rattle.frz_answer.specs.Texts.{TookText, FailedWithin}
 use Rattle.frz_answer.proofs.Lemmas.{failed_before, failed_behind, took_behind}
-use Rattle.frz_report.specs.Exits.{class_of}
 use Rattle.frz_report.specs.Walks.{IsFirsts}
 use Rattle.frz_commands_atlas.specs.declared.first_exits.FirstExit.{FirstExit}
 use Rattle.frz_commands_atlas.specs.FirstExits.{first_line, listed, rarity, row_among}

@@ -5,15 +5,12 @@ use Rattle.std.specs.Option.{unwrap_or}
 use Rattle.frz_board.specs.Boards.{Board}
 use Rattle.frz_board.specs.declared.man.Colour.{Colour}
 use Rattle.frz_board.specs.declared.man.Colour.TheVariants.{White, Black}
-use Rattle.frz_exits.specs.Books.{value_by}
 use Rattle.frz_graph.specs.EntryCodes.{of_side}
 use Rattle.frz_sets.specs.Views.{RuleLines}
 use Rattle.frz_sets.specs.declared.exit.Value.{Value}
 use Rattle.frz_store.specs.Files.{Files}
 use Rattle.frz_store.specs.Told.{StoreTold, SourceTold, SinkTold, StoreQuiet}
 use Rattle.frz_table.specs.declared.fault.TableFault.{TableFault}
-use Rattle.frz_table.specs.declared.kind.FileKind.{FileKind}
-use Rattle.frz_table.specs.declared.kind.FileKind.TheVariants.{Plain, Chained, Atlas}
 use Rattle.frz_table.specs.Opening.{Contents, contents_of, opened, own_format}
 use Rattle.frz_table.specs.Tables.{table_size}
 use Rattle.frz_check.specs.Kept.{kept_codes, opened_size}
@@ -21,7 +18,6 @@ use Rattle.frz_backs.specs.Books.{Back}
 use Rattle.frz_backs.specs.FileOn.{loaded_back}
 use Rattle.frz_backs.specs.Links.{Link, value_over}
 use Rattle.frz_backs.specs.Loaded.{leans_as, link_loaded}
-use Rattle.frz_backs.specs.Values.{atlas_value}
 use Rattle.frz_backs.proofs.Lemmas.{loaded_backs}
 use Rattle.frz_atlas.specs.Behind.{TableBytes, backs_in}
 use Rattle.frz_atlas.specs.Causes.{HasAtlasCause}
@@ -71,28 +67,6 @@ moved_report r s value white black white_slice black_slice result out after rule
     after) white_is
     (subst (λ (x : RuleLines). WritesFirsts x value (λ side. of_side side white_slice black_slice)
     result out after) rules h))
-
--- by a book of tables, where the kind is one that leans on them
-pub report_leaning : (kind : FileKind) (r s : RuleLines) (a b : List Back) (codes : Colour → List ℕ)
-    (result : Result Totals ReportFault) (out after : SinkTold) → Atlas ≡ kind → r ≡ s → a ≡ b
-    → WritesFirsts s (λ q. atlas_value r a q) codes result out after
-    → WritesFirsts s (value_over (leans_as kind) s b) codes result out after
-report_leaning kind r s a b codes result out after is rules backs h =
-    subst (λ (k : FileKind). WritesFirsts s (value_over (leans_as k) s b) codes result out after) is
-    (subst (λ (l : List Back). WritesFirsts s (λ q. atlas_value s l q) codes result out after) backs
-    (subst (λ (x : RuleLines). WritesFirsts s (λ q. atlas_value x a q) codes result out after) rules
-    h))
-
--- by exit lines alone, where it does not
-pub report_plain : (kind : FileKind) (r s : RuleLines) (b : List Back) (codes : Colour → List ℕ)
-    (result : Result Totals ReportFault) (out after : SinkTold) → (kind ≡ Atlas → ⊥) → r ≡ s
-    → WritesFirsts s (λ q. value_by r q) codes result out after
-    → WritesFirsts s (value_over (leans_as kind) s b) codes result out after
-report_plain Plain r s b codes result out after other rules h =
-    subst (λ (x : RuleLines). WritesFirsts s (λ q. value_by x q) codes result out after) rules h
-report_plain Chained r s b codes result out after other rules h =
-    subst (λ (x : RuleLines). WritesFirsts s (λ q. value_by x q) codes result out after) rules h
-report_plain Atlas r s b codes result out after other rules h = absurd (other refl)
 
 -- the answer by what the names hold
 module _ (table : List ℕ) (behind : List (List ℕ)) (files : Files) (held : Option (List ℕ))

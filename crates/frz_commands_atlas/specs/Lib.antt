@@ -5,6 +5,7 @@ pub mod AtlasHeadline
 pub mod CheckMeans
 pub mod Reporting
 pub mod Ranked
+pub mod FirstBack
 pub mod MoveRows
 pub mod RowLines
 pub mod Each

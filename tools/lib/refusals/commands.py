@@ -120,8 +120,8 @@ def atlas():
         {"TABLE": "H.t", **BACKS}, FIRSTS_OF_H, count(1, 1), twice, faults.either(), *behind(False)
     )
     yield "each", command(
-        {"TABLE": "H.t", "FEN": IN_H}, "Kb8 white wins within 1, black none\n", faults.count(2, 2), fen,
-        faults.either(), place,
+        {"TABLE": "H.t", "FEN": IN_H, **BACKS}, "Kb8 white wins within 1, black none\n", count(2, 2), twice, fen,
+        faults.either(), *behind(False), place,
     )
     yield "ask", command(
         {"TABLE": "H.t", **BACKS}, TOLD_BY_ASK, count(1, 1), twice, faults.either(), *behind(False), given=SAID_TO_ASK

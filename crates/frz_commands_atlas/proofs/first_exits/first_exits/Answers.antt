@@ -1,4 +1,4 @@
-use Rattle.std.proofs.Common.{◌≡◌, ◌∙◌, ◌++◌, ◌∷◌, [], ap, sym, refl, ℕ, List, map, take, arith}
+use Rattle.std.proofs.Common.{◌≡◌, ◌∙◌, ◌++◌, ◌∷◌, [], ap, ℕ, List, map, arith}
 use Rattle.std.proofs.lemmas.List.{take_all}
 use Rattle.frz_board.specs.Boards.{Board}
 use Rattle.frz_report.specs.Census.{times}
