@@ -36,7 +36,7 @@ COMMANDS = {"freezer": [
     ("check", "L.t", "N.t"),
     ("query", "L.t", MATE_IN_ONE),
     ("report", "L.t", "N.t"),
-    ("each", "L.t", MATE_IN_ONE),
+    ("each", "L.t", MATE_IN_ONE, "N.t"),
     ("line", "L.t", MATE_IN_TWO, "white", "N.t"),
     ("play", "L.t", MATE_IN_TWO, "white", "N.t"),
     ("why", "L.t", MATE_IN_TWO, "black", "N.t"),

@@ -2,7 +2,7 @@
 
 from lib.game import HOLD, SIDES, bound_text, is_win, opponent
 from lib.san import san_of
-from lib.walks import end_at
+from lib.walks import behind_at, end_at
 
 HELD, LOST = 2 ** 32, 2 ** 34
 
@@ -18,10 +18,12 @@ def each_text(table, number):
 
 
 def said_of(table, arm):
-    """The bounds after a move, or the value of the exit."""
-    mark = "" if arm.free else ", renounced"
+    """The bounds after a move, those of the table behind that tells of it, or the value of the exit."""
+    mark, game = "" if arm.free else ", renounced", table.game
     if arm.number is not None:
         return bounds_text([table.codes[side][arm.number] for side in SIDES]) + mark
+    if (place := behind_at(game, arm.end)) is not None:
+        return f"back {place + 1} {bounds_text(game.back.backs[place].codes_at(arm.end))}{mark}"
     return f"exit {arm.value}{mark}"
 
 

@@ -243,17 +243,31 @@ def class_of(position):
     return "".join(sorted(position.men.values(), key="KQRBNPkqrbnp".index))
 
 
-def report_text(game, white, black):
-    """The text of the command `report` over these codes."""
-    lines = [
-        f"squeeze {w} {b} {write_fen(game.positions[w])}" for w, b in squeezes(game, white, black)
-    ]
-    pairs = len(lines)
+def open_exits(game):
+    """The positions behind open exits by their classes, as these are met."""
     classes = {}
     for arms in game.arms:
         for arm in arms or []:
             if arm.number is None and arm.value == "unknown":
                 classes.setdefault(class_of(arm.end), []).append(arm.end)
-    lines += [f"exits {len(ends)} {name}" for name, ends in classes.items()]
-    lines.append(f"squeezes {pairs} unassigned {sum(map(len, classes.values()))}")
+    return classes
+
+
+def class_lines(classes):
+    return [f"exits {len(ends)} {name}" for name, ends in classes.items()]
+
+
+def first_lines(classes):
+    """The lines of `atlas`: the most frequent class first, each with its first position."""
+    ranked = sorted(classes.items(), key=lambda found: -len(found[1]))
+    return [f"exits {len(ends)} {name} {write_fen(ends[0])}" for name, ends in ranked]
+
+
+def report_text(game, white, black, lines_of=class_lines):
+    """The text of the command `report` over these codes."""
+    lines = [
+        f"squeeze {w} {b} {write_fen(game.positions[w])}" for w, b in squeezes(game, white, black)
+    ]
+    classes = open_exits(game)
+    lines += [*lines_of(classes), f"squeezes {len(lines)} unassigned {sum(map(len, classes.values()))}"]
     return "".join(line + "\n" for line in lines)

@@ -8,7 +8,7 @@ ghost use Rattle.std.specs.Prelude.{◌≡◌, ◌<◌};
 
 use frz_answer::{End, Refusal, finish, refuse, write_numbered_line};
 use frz_commands_ask::query_kind;
-use frz_commands_atlas::{run_build, run_check, run_each};
+use frz_commands_atlas::{run_build, run_check, run_each, run_report};
 use frz_commands_inquiry::run_ask;
 use frz_commands_journeys::{run_line as play_line, run_play};
 use frz_commands_premises::run_premises;
@@ -60,6 +60,7 @@ fn run_command<S: Store, I: Source, O: Sink, L: Ledger>(
         "each" => run_each(alloc, rest, store, out, steps),
         "line" => play_line(alloc, rest, store, out, steps),
         "play" => run_play(alloc, rest, store, input, out, steps),
+        "report" => run_report(alloc, rest, store, out, steps),
         "premises" => run_premises(alloc, rest, store, out, steps),
         "verdict" => run_verdict(alloc, rest, store, out, steps),
         "why" => run_why(alloc, rest, store, out, steps),

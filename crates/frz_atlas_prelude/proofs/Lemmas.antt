@@ -28,5 +28,6 @@ pub use Rattle.frz_atlas_prelude.proofs.Over.{means_over, one_over, over_held, r
 pub use Rattle.frz_atlas_prelude.proofs.Unread.{OpensTables, unread_ran, within_held}
 pub use Rattle.frz_atlas_prelude.proofs.NamesTaken.{ran_named, ran_refused}
 pub use Rattle.frz_atlas_prelude.proofs.WordsAsked.{asked_lawful, ran_asked, ran_unasked}
+pub use Rattle.frz_atlas_prelude.proofs.WordsGiven.{given_lawful, ran_given, ran_ungiven}
 pub use Rattle.frz_atlas_prelude.proofs.RulesRead.{bytes_to_read, calls_to_read, holds_rules, spent_by_files}
 pub use Rattle.frz_atlas_prelude.proofs.RulesAnswered.{held_rules, not_refused, one_refusal, some_answer}

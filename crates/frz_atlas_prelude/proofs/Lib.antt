@@ -12,3 +12,4 @@ mod Unread
 mod NamesTaken
 mod OwnRefused
 mod WordsAsked
+mod WordsGiven

@@ -1,5 +1,6 @@
 pub mod Names
 pub mod Asked
+pub mod Given
 pub mod BackLines
 pub mod Ending
 pub mod Tables

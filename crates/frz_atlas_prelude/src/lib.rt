@@ -5,8 +5,10 @@
 mod asked;
 mod back_lines;
 mod ending;
+mod given;
 mod names;
 
 pub use asked::{Asked, asked_names};
 pub use ending::end_at;
+pub use given::{Given, names_given};
 pub use names::{MOST_BACKS, build_names, has_twice, is_among, names_with_backs};

@@ -34,7 +34,7 @@ use Rattle.frz_prelude.proofs.Lemmas.{StopsWith, found_where, holding, refusal_s
 use Rattle.frz_report.specs.declared.fault.ReportFault.{ReportFault}
 use Rattle.frz_report.specs.declared.fault.ReportFault.TheVariants as faults
 use Rattle.frz_report.specs.declared.fault.Totals.{Totals}
-use Rattle.frz_report.specs.Reports.{StoreCause, WritesOfFile, WritesOfTable}
+use Rattle.frz_report.specs.Reports.{StoreCause, classes_text, WritesOfFile, WritesOfTable}
 use Rattle.frz_report.specs.Ending.{end_by}
 use Rattle.frz_report.proofs.Lemmas.{MayReport, nothing_reported, report_ended, report_said}
 use Rattle.frz_commands_ask.proofs.ReportMeans.{report_means}
@@ -56,7 +56,7 @@ within_costs held old new h = record { steps = h.steps; calls = h.calls; asked =
 some_report : (x : Result Contents TableFault) (bytes : List ℕ) (files : Files)
     → (report_by x bytes files).text ≡ [] → ⊥
 some_report (Ok contents) bytes files =
-    report_said contents.rules (value_by contents.rules) (kept_codes contents bytes)
+    report_said (classes_text contents.rules (value_by contents.rules)) contents.rules (value_by contents.rules) (kept_codes contents bytes)
 some_report (Err fault) bytes files = refusal_said (refusals.Table fault)
 
 some_at : (table : List ℕ) (files : Files) → SomeAnswer (λ a. a ≡ report_at table files)
@@ -144,7 +144,8 @@ module _ (name : List ℕ) (table : Table) (old mid new : StoreTold) (input : So
       → Ran (reporting_at name) (end_by result) (world old input out_old before)
       (world new input out_new now)
   of_file result cause h =
-      report_ended (reporting_at name) (may_report name) table.rules (value_by table.rules)
+      report_ended (reporting_at name) (may_report name)
+      (classes_text table.rules (value_by table.rules)) table.rules (value_by table.rules)
       (kept_codes (contents_of table) h.bytes) old new input out_old out_new before now quiet_all
       begun.later
       (λ files left agrees. given_answer name (contents_of table) h.bytes files left
@@ -156,7 +157,8 @@ module _ (name : List ℕ) (table : Table) (old mid new : StoreTold) (input : So
       → Ran (reporting_at name) (Stopped fault) (world old input out_old before)
       (world new input out_new now)
   unread_ends fault meets same =
-      nothing_reported (reporting_at name) (may_report name) table.rules (value_by table.rules)
+      nothing_reported (reporting_at name) (may_report name)
+      (classes_text table.rules (value_by table.rules)) table.rules (value_by table.rules)
       (kept_codes (contents_of table) begun.opens.bytes) old new input out_old out_new before now
       quiet_all begun.later
       (λ files left agrees. given_answer name (contents_of table) begun.opens.bytes files left

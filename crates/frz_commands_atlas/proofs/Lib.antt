@@ -14,7 +14,12 @@ mod OneOrder
 mod MovesBehind
 mod ReadFile
 mod EachOnce
+mod BehindTells
+mod EachMeaning
+mod TablesOpened
 mod RowsWith
+mod ValuesOver
 mod RowsRead
 mod EachRun
 mod BuiltKinds
+mod FirstExits

@@ -14,7 +14,6 @@ use Rattle.frz_fide.proofs.Lemmas.{only_legal}
 use Rattle.frz_sets.specs.declared.exit.Value.{Value}
 use Rattle.frz_sets.specs.Sets.{size_of}
 use Rattle.frz_sets.specs.Views.{RuleLines}
-use Rattle.frz_exits.specs.Books.{value_by}
 use Rattle.frz_index.specs.Members.{Member, Num}
 use Rattle.frz_index.proofs.Lemmas.{member_of, number_there}
 use Rattle.frz_arena.specs.declared.bound.Bound.{Bound}
@@ -64,40 +63,41 @@ unfolding arm_at
 arm_has_move rules value p m = refl
 
 -- what holds of each legal move holds of the rows in any order
-in_order : (P : Row → Type 0) (rules : RuleLines) (p : Board) (white black : List ℕ)
-    (rank : Row → ℕ) (rows : List Row)
+in_order : (P : Row → Type 0) (rules : RuleLines) (value : Board → Value) (p : Board)
+    (white black : List ℕ) (rank : Row → ℕ) (rows : List Row)
     → ((m : Step) → Contains (legal_moves_of p) m
-    → P (row_by white black (arm_at rules (value_by rules) p m)))
-    → IsRanked rank (map (row_by white black) (arms_of rules p)) rows → All P rows
-in_order P rules p white black rank rows each ranked =
-    let arm : Step → Arm Step ℕ Value = arm_at rules (value_by rules) p in
-    All-permutation P (map (row_by white black) (arms_of rules p)) rows ranked.same
-    (All-map P (row_by white black) (arms_of rules p)
+    → P (row_by white black (arm_at rules value p m)))
+    → IsRanked rank (map (row_by white black) (arms_of rules value p)) rows → All P rows
+in_order P rules value p white black rank rows each ranked =
+    let arm : Step → Arm Step ℕ Value = arm_at rules value p in
+    All-permutation P (map (row_by white black) (arms_of rules value p)) rows ranked.same
+    (All-map P (row_by white black) (arms_of rules value p)
     (All-map (λ (a : Arm Step ℕ Value). P (row_by white black a)) arm (legal_moves_of p)
     (All-weaker (Contains (legal_moves_of p)) (λ (m : Step). P (row_by white black (arm m))) each
     (legal_moves_of p) (All-contains_itself (legal_moves_of p)))))
 
 -- the rows are of legal moves
-pub legal_rows : (rules : RuleLines) (p : Board) (white black : List ℕ) (rank : Row → ℕ)
-    (rows : List Row) → IsRanked rank (map (row_by white black) (arms_of rules p)) rows
+pub legal_rows : (rules : RuleLines) (value : Board → Value) (p : Board) (white black : List ℕ)
+    (rank : Row → ℕ) (rows : List Row)
+    → IsRanked rank (map (row_by white black) (arms_of rules value p)) rows
     → All (λ (row : Row). is_legal p row.arm.mv ≡ true) rows
-legal_rows rules p white black rank rows ranked =
-    in_order (λ (row : Row). is_legal p row.arm.mv ≡ true) rules p white black rank rows
-    (λ m listed. ap (is_legal p) (arm_has_move rules (value_by rules) p m)
-    ∙ (only_legal p m listed).1)
+legal_rows rules value p white black rank rows ranked =
+    in_order (λ (row : Row). is_legal p row.arm.mv ≡ true) rules value p white black rank rows
+    (λ m listed. ap (is_legal p) (arm_has_move rules value p m) ∙ (only_legal p m listed).1)
     ranked
 
 -- and there are as many
-pub many_rows : (rules : RuleLines) (p : Board) (white black : List ℕ) (rank : Row → ℕ)
-    (rows : List Row) → IsRanked rank (map (row_by white black) (arms_of rules p)) rows
+pub many_rows : (rules : RuleLines) (value : Board → Value) (p : Board) (white black : List ℕ)
+    (rank : Row → ℕ) (rows : List Row)
+    → IsRanked rank (map (row_by white black) (arms_of rules value p)) rows
     → length rows ≡ length (legal_moves_of p)
-many_rows rules p white black rank rows ranked =
-    length_permutation (map (row_by white black) (arms_of rules p)) rows ranked.same
-    ∙ length-map (arms_of rules p) (row_by white black)
-    ∙ length-map (legal_moves_of p) (arm_at rules (value_by rules) p)
+many_rows rules value p white black rank rows ranked =
+    length_permutation (map (row_by white black) (arms_of rules value p)) rows ranked.same
+    ∙ length-map (arms_of rules value p) (row_by white black)
+    ∙ length-map (legal_moves_of p) (arm_at rules value p)
 
 -- the words of the codes of bounds are those of the bounds
-words_of_bounds : (w b : ℕ) (white black : Bound)
+pub words_of_bounds : (w b : ℕ) (white black : Bound)
     → kept_words w ≡ bound_text white → kept_words b ≡ bound_text black
     → both_words w b ≡ (side_name White ++ bound_text white)
     ++ (codes ", " ++ (side_name Black ++ bound_text black))
@@ -106,16 +106,17 @@ words_of_bounds w b white black w_is b_is =
     ∙ ap (λ (l : List ℕ). (side_name White ++ bound_text white)
     ++ (codes ", " ++ (side_name Black ++ l))) b_is
 
-module _ (value : Board → Value) (contents : Contents) (bytes : List ℕ) (p : Board)
+-- whatever values exits have in the rows
+module _ (book value : Board → Value) (contents : Contents) (bytes : List ℕ) (p : Board)
     (tables : KeepsTables value contents bytes) where
   -- the code of a side behind a move that stays in the set is that of its bound
   bound_behind : (side : Colour) (m : Step) (n : ℕ)
-      → (arm_at contents.rules (value_by contents.rules) p m).next ≡ Inside n
+      → (arm_at contents.rules book p m).next ≡ Inside n
       → KeepsBound contents.rules value side (after p m)
       (arm_code side (kept_codes contents bytes side)
-      (arm_at contents.rules (value_by contents.rules) p m))
+      (arm_at contents.rules book p m))
   bound_behind side m n e =
-      let to = stays_at contents.rules (value_by contents.rules) p m n e in
+      let to = stays_at contents.rules book p m n e in
       let kept = kept_codes contents bytes side in
       subst (λ (x : Next ℕ Value). KeepsBound contents.rules value side (after p m)
       (next_code side kept x)) (sym e)
@@ -124,29 +125,29 @@ module _ (value : Board → Value) (contents : Contents) (bytes : List ℕ) (p :
 
   row_tells : (m : Step) → TellsBehind contents.rules value p
       (row_by (kept_codes contents bytes White) (kept_codes contents bytes Black)
-      (arm_at contents.rules (value_by contents.rules) p m))
+      (arm_at contents.rules book p m))
   unfolding arm_at
   row_tells m = λ n e.
       let white = bound_behind White m n e in
       let black = bound_behind Black m n e in
       record {
-        inside = (stays_at contents.rules (value_by contents.rules) p m n e).0;
+        inside = (stays_at contents.rules book p m n e).0;
         white = white;
         black = black;
         told = words_of_bounds
             (arm_code White (kept_codes contents bytes White)
-            (arm_at contents.rules (value_by contents.rules) p m))
+            (arm_at contents.rules book p m))
             (arm_code Black (kept_codes contents bytes Black)
-            (arm_at contents.rules (value_by contents.rules) p m)) white.bound black.bound
+            (arm_at contents.rules book p m)) white.bound black.bound
             (ap kept_words white.is ∙ kept_bound white.bound)
             (ap kept_words black.is ∙ kept_bound black.bound);
       }
 
   -- where the codes are those of the tables, the rows tell the bounds
   pub rows_tell : (rank : Row → ℕ) (rows : List Row)
-      → IsRanked rank (rows_in contents bytes p) rows
+      → IsRanked rank (rows_in contents bytes book p) rows
       → All (TellsBehind contents.rules value p) rows
   rows_tell rank rows ranked =
-      in_order (TellsBehind contents.rules value p) contents.rules p
+      in_order (TellsBehind contents.rules value p) contents.rules book p
       (kept_codes contents bytes White) (kept_codes contents bytes Black) rank rows
       (λ m listed. row_tells m) ranked

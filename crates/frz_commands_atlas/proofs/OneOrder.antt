@@ -5,6 +5,7 @@ use Rattle.std.proofs.lemmas.Bool.Decides.{nat_tests}
 use Rattle.std.proofs.lemmas.List.Sorted.{IsPermutation-cons, IsPermutation-refl, IsPermutation-swap, IsPermutation-trans}
 use Rattle.std.specs.List.Sorted.{IsNonDecreasingBy, IsPermutation, ties}
 use Rattle.std.specs.Ordering.{is_lt, nat_cmp}
+use Rattle.frz_commands_atlas.specs.InOrder as orders
 use Rattle.frz_commands_atlas.specs.Ranked.{IsRanked}
 
 ties_at : (m n : ℕ) → (ties (λ x y. is_lt (nat_cmp x y)) m n ≡ true → m ≡ n)
@@ -115,14 +116,11 @@ module _ {X : Type 0} (rank : X → ℕ) where
       one_rising ys zs (non_decreasing_rises ys h.rising) (non_decreasing_rises zs k.rising)
       (λ x. h.level x ∙ sym (k.level x))
 
-  -- x before the first that does not rank below it
   abbrev put_in : X → List X → List X
-  put_in x [] = x ∷ []
-  put_in x (y ∷ ys) = cond (ltb (rank y) (rank x)) (y ∷ put_in x ys) (x ∷ y ∷ ys)
+  put_in = orders.put_in rank
 
   abbrev in_order : List X → List X
-  in_order [] = []
-  in_order (x ∷ xs) = put_in x (in_order xs)
+  in_order = orders.in_order rank
 
   put_behind_lower : (x y : X) (ys : List X) → ltb (rank y) (rank x) ≡ true
       → put_in x (y ∷ ys) ≡ y ∷ put_in x ys
@@ -220,13 +218,13 @@ module _ {X : Type 0} (rank : X → ℕ) where
       IsPermutation-trans (x ∷ xs) (x ∷ in_order xs) (put_in x (in_order xs))
       (IsPermutation-cons x xs (in_order xs) (order_is_permutation xs)) (put_same x (in_order xs))
 
+  pub in_order_is_ranked : (xs : List X) → IsRanked rank xs (in_order xs)
+  in_order_is_ranked xs = record {
+    same = order_is_permutation xs;
+    rising = rising_is_non_decreasing (in_order xs) (all_rises xs);
+    level = λ x. all_level x xs;
+  }
+
   -- there is one
   pub some_order : (xs : List X) → (ranked : List X) × IsRanked rank xs ranked
-  some_order xs = (
-    in_order xs,
-    record {
-      same = order_is_permutation xs;
-      rising = rising_is_non_decreasing (in_order xs) (all_rises xs);
-      level = λ x. all_level x xs;
-    },
-  )
+  some_order xs = (in_order xs, in_order_is_ranked xs)

@@ -5,15 +5,12 @@ use Rattle.std.specs.Option.{unwrap_or}
 use Rattle.frz_board.specs.Boards.{Board}
 use Rattle.frz_board.specs.declared.man.Colour.{Colour}
 use Rattle.frz_board.specs.declared.man.Colour.TheVariants.{White, Black}
-use Rattle.frz_exits.specs.Books.{value_by}
 use Rattle.frz_graph.specs.EntryCodes.{of_side}
 use Rattle.frz_sets.specs.Views.{RuleLines}
 use Rattle.frz_sets.specs.declared.exit.Value.{Value}
 use Rattle.frz_store.specs.Files.{Files}
 use Rattle.frz_store.specs.Told.{StoreTold, SourceTold, SinkTold, StoreQuiet}
 use Rattle.frz_table.specs.declared.fault.TableFault.{TableFault}
-use Rattle.frz_table.specs.declared.kind.FileKind.{FileKind}
-use Rattle.frz_table.specs.declared.kind.FileKind.TheVariants.{Plain, Chained, Atlas}
 use Rattle.frz_table.specs.Opening.{Contents, contents_of, opened, own_format}
 use Rattle.frz_table.specs.Tables.{table_size}
 use Rattle.frz_check.specs.Kept.{kept_codes, opened_size}
@@ -21,7 +18,6 @@ use Rattle.frz_backs.specs.Books.{Back}
 use Rattle.frz_backs.specs.FileOn.{loaded_back}
 use Rattle.frz_backs.specs.Links.{Link, value_over}
 use Rattle.frz_backs.specs.Loaded.{leans_as, link_loaded}
-use Rattle.frz_backs.specs.Values.{atlas_value}
 use Rattle.frz_backs.proofs.Lemmas.{loaded_backs}
 use Rattle.frz_atlas.specs.Behind.{TableBytes, backs_in}
 use Rattle.frz_atlas.specs.Causes.{HasAtlasCause}
@@ -38,7 +34,6 @@ use Rattle.frz_report.specs.declared.fault.ReportFault.{ReportFault}
 use Rattle.frz_report.specs.declared.fault.ReportFault.TheVariants as report_faults
 use Rattle.frz_report.specs.declared.fault.Totals.{Totals}
 use Rattle.frz_report.specs.Ending.{end_by}
-use Rattle.frz_report.specs.Reports.{WritesReport}
 use Rattle.frz_report.proofs.Lemmas.{MayReport, loaded_cause, report_ended}
 use Rattle.frz_answer.specs.declared.end.End.{End}
 use Rattle.frz_answer.specs.declared.status.Status.TheVariants.{Success}
@@ -50,6 +45,7 @@ use Rattle.frz_prelude.proofs.Lemmas.{found_where, table_own}
 use Rattle.frz_atlas_prelude.specs.Ending.{EndsAt}
 use Rattle.frz_atlas_prelude.specs.Names.{has_twice}
 use Rattle.frz_atlas_prelude.proofs.Lemmas.{AnswersAt, Holds, MayEndAt, apart_names_hold, ended_at}
+use Rattle.frz_commands_atlas.specs.FirstExits.{WritesFirsts, firsts_text}
 use Rattle.frz_commands_atlas.specs.Reporting.{report_at, report_by, report_costs, report_over, reporting_at, value_behind}
 use Rattle.frz_commands_atlas.proofs.ReportMeaning.{some_at}
 
@@ -61,38 +57,16 @@ may_report table behind =
 pub moved_report : (r s : RuleLines) (value : Board → Value)
     (white black white_slice black_slice : List ℕ) (result : Result Totals ReportFault)
     (out after : SinkTold) → r ≡ s → white_slice ≡ white → black_slice ≡ black
-    → WritesReport r value (λ side. of_side side white_slice black_slice) result out after
-    → WritesReport s value (λ side. of_side side white black) result out after
+    → WritesFirsts r value (λ side. of_side side white_slice black_slice) result out after
+    → WritesFirsts s value (λ side. of_side side white black) result out after
 moved_report r s value white black white_slice black_slice result out after rules white_is black_is
     h =
-    subst (λ (l : List ℕ). WritesReport s value (λ side. of_side side white l) result out after)
+    subst (λ (l : List ℕ). WritesFirsts s value (λ side. of_side side white l) result out after)
     black_is
-    (subst (λ (l : List ℕ). WritesReport s value (λ side. of_side side l black_slice) result out
+    (subst (λ (l : List ℕ). WritesFirsts s value (λ side. of_side side l black_slice) result out
     after) white_is
-    (subst (λ (x : RuleLines). WritesReport x value (λ side. of_side side white_slice black_slice)
+    (subst (λ (x : RuleLines). WritesFirsts x value (λ side. of_side side white_slice black_slice)
     result out after) rules h))
-
--- by a book of tables, where the kind is one that leans on them
-pub report_leaning : (kind : FileKind) (r s : RuleLines) (a b : List Back) (codes : Colour → List ℕ)
-    (result : Result Totals ReportFault) (out after : SinkTold) → Atlas ≡ kind → r ≡ s → a ≡ b
-    → WritesReport s (λ q. atlas_value r a q) codes result out after
-    → WritesReport s (value_over (leans_as kind) s b) codes result out after
-report_leaning kind r s a b codes result out after is rules backs h =
-    subst (λ (k : FileKind). WritesReport s (value_over (leans_as k) s b) codes result out after) is
-    (subst (λ (l : List Back). WritesReport s (λ q. atlas_value s l q) codes result out after) backs
-    (subst (λ (x : RuleLines). WritesReport s (λ q. atlas_value x a q) codes result out after) rules
-    h))
-
--- by exit lines alone, where it does not
-pub report_plain : (kind : FileKind) (r s : RuleLines) (b : List Back) (codes : Colour → List ℕ)
-    (result : Result Totals ReportFault) (out after : SinkTold) → (kind ≡ Atlas → ⊥) → r ≡ s
-    → WritesReport s (λ q. value_by r q) codes result out after
-    → WritesReport s (value_over (leans_as kind) s b) codes result out after
-report_plain Plain r s b codes result out after other rules h =
-    subst (λ (x : RuleLines). WritesReport s (λ q. value_by x q) codes result out after) rules h
-report_plain Chained r s b codes result out after other rules h =
-    subst (λ (x : RuleLines). WritesReport s (λ q. value_by x q) codes result out after) rules h
-report_plain Atlas r s b codes result out after other rules h = absurd (other refl)
 
 -- the answer by what the names hold
 module _ (table : List ℕ) (behind : List (List ℕ)) (files : Files) (held : Option (List ℕ))
@@ -163,17 +137,17 @@ module _ (table : List ℕ) (behind : List (List ℕ)) (apart : has_twice (table
 
     -- what was written by the loaded codes is the report by those in the file
     by_file : (result : Result Totals ReportFault) (after : SinkTold)
-        → WritesReport contents.rules
+        → WritesFirsts contents.rules
         (value_over (leans_as given.table.table.kind) contents.rules (map loaded_back given.backs.items))
         (λ side. of_side side given.table.white.items given.table.black.items) result out after
-        → WritesReport contents.rules value kept result out after
+        → WritesFirsts contents.rules value kept result out after
     by_file result after h =
-        subst (λ (c : Colour → List ℕ). WritesReport contents.rules value c result out after)
+        subst (λ (c : Colour → List ℕ). WritesFirsts contents.rules value c result out after)
         (λ j side. sides_are_kept side j)
-        (subst (λ (x : Link). WritesReport contents.rules
+        (subst (λ (x : Link). WritesFirsts contents.rules
         (value_over x.leans contents.rules (backs_in l.tables))
         (λ side. of_side side x.back.white x.back.black) result out after) l.keeps
-        (subst (λ (b : List Back). WritesReport contents.rules
+        (subst (λ (b : List Back). WritesFirsts contents.rules
         (value_over (leans_as given.table.table.kind) contents.rules b)
         (λ side. of_side side given.table.white.items given.table.black.items) result out after)
         (sym (loaded_backs given.backs.items)
@@ -186,12 +160,13 @@ module _ (table : List ℕ) (behind : List (List ℕ)) (apart : has_twice (table
     pub report_is_told : (result : Result Totals ReportFault) (after : SinkTold)
         → HasAtlasCause {T = LoadedAtlas} (Ok given) old new
         → (result ≡ Err report_faults.Store → ⊥)
-        → WritesReport contents.rules
+        → WritesFirsts contents.rules
         (value_over (leans_as given.table.table.kind) contents.rules (map loaded_back given.backs.items))
         (λ side. of_side side given.table.white.items given.table.black.items) result out after
         → Ran (reporting_at table behind) (end_by result) start (world new input after now)
     report_is_told result after fine never h =
-        report_ended (reporting_at table behind) (may_report table behind) contents.rules value kept
+        report_ended (reporting_at table behind) (may_report table behind)
+        (firsts_text contents.rules value) contents.rules value kept
         old new input out after before now quiet later report_is_answer result
         (loaded_cause old new result fine never) (by_file result after h)
 

@@ -29,6 +29,10 @@ use Rattle.frz_prelude.proofs.Lemmas.{by_table_status, refusal_said}
 use Rattle.frz_atlas_prelude.specs.Names.{file_names_of, has_twice}
 use Rattle.frz_atlas_prelude.specs.TableRefusals.{of_back, of_table}
 use Rattle.frz_atlas_prelude.proofs.Lemmas.{back_line_not_empty, result_is_not_both}
+use Rattle.frz_report.specs.Exits.{positions_of}
+use Rattle.frz_commands_atlas.specs.FirstExits.{firsts_text, listed, rarity}
+use Rattle.frz_commands_atlas.specs.InOrder.{in_order}
+use Rattle.frz_commands_atlas.proofs.OneOrder.{in_order_is_ranked}
 use Rattle.frz_commands_atlas.specs.Reporting.{MeansReport, MeansStatus, report_at, report_behind, report_by, report_words, reporting_at, value_behind}
 
 abbrev Opened : Type 0
@@ -38,7 +42,8 @@ Opened = Result (List TableBytes) (ℕ × TableFault)
 some_report : (x : Result Contents TableFault) (bytes : List ℕ) (behind : Opened) (files : Files)
     → (report_by x bytes behind files).text ≡ [] → ⊥
 some_report (Ok contents) bytes (Ok tables) files =
-    report_said contents.rules (value_behind contents bytes tables) (kept_codes contents bytes)
+    report_said (firsts_text contents.rules (value_behind contents bytes tables)) contents.rules
+    (value_behind contents bytes tables) (kept_codes contents bytes)
 some_report (Ok contents) bytes (Err refused) files = back_line_not_empty refused.0
     (Refused refused.1)
 some_report (Err fault) bytes behind files = refusal_said (refusals.Table fault)
@@ -90,6 +95,10 @@ module _ (table : List ℕ) (behind : List (List ℕ)) (files : Files) where
           open_file = record { there = there; opens = opens };
           tables = tables;
           all_open = are;
+          rows = in_order rarity (listed (positions_of contents.rules
+              (value_behind contents bytes tables)));
+          ranked = in_order_is_ranked rarity (listed (positions_of contents.rules
+              (value_behind contents bytes tables)));
           told = ap (λ (x : Answer). x.text) told;
           where_exact = λ kept side p inside.
               bound_kept (value_behind contents bytes tables) contents bytes kept side p inside;

@@ -6,7 +6,6 @@ use Rattle.frz_board.specs.Moving.{Step}
 use Rattle.frz_fide.specs.Listing.{legal_moves_of}
 use Rattle.frz_sets.specs.declared.exit.Value.{Value}
 use Rattle.frz_sets.specs.Views.{RuleLines}
-use Rattle.frz_exits.specs.Books.{value_by}
 use Rattle.frz_arena.specs.declared.arm.Arm.{Arm}
 use Rattle.frz_graph.specs.EntryCodes.{arm_code}
 use Rattle.frz_game.specs.Games.{arm_at}
@@ -23,12 +22,12 @@ row_by white black arm = record {
   black = arm_code Black black arm;
 }
 
--- the legal moves of the position, in move order; exits have the values of the exit lines
-abbrev pub arms_of : RuleLines → Board → List (Arm Step ℕ Value)
-arms_of rules p = map (arm_at rules (value_by rules) p) (legal_moves_of p)
+-- the legal moves of the position, in move order; exits have these values
+abbrev pub arms_of : RuleLines → (Board → Value) → Board → List (Arm Step ℕ Value)
+arms_of rules value p = map (arm_at rules value p) (legal_moves_of p)
 
 -- a row for each legal move of the position, by the codes in the bytes
-abbrev pub rows_in : Contents → List ℕ → Board → List Row
-rows_in contents bytes p =
+abbrev pub rows_in : Contents → List ℕ → (Board → Value) → Board → List Row
+rows_in contents bytes value p =
     map (row_by (kept_codes contents bytes White) (kept_codes contents bytes Black))
-    (arms_of contents.rules p)
+    (arms_of contents.rules value p)

@@ -1,5 +1,5 @@
 -- What `report TABLE BACK ..` is to do, and what its answers mean. No file changes.
-use Rattle.std.specs.Prelude.{◌≡◌, ℕ, List, [], ◌∷◌, map, slice_index, true, false, Option, Some, Result, Ok, Err}
+use Rattle.std.specs.Prelude.{◌≡◌, ℕ, List, [], ◌∷◌, map, flat_map, slice_index, true, false, Option, Some, Result, Ok, Err}
 use Rattle.frz_board.specs.declared.man.Colour.{Colour}
 use Rattle.frz_board.specs.Boards.{Board}
 use Rattle.frz_sets.specs.declared.exit.Value.{Value}
@@ -15,7 +15,8 @@ use Rattle.frz_atlas.specs.Behind.{AreJudged, TableBytes, backs_in, leans, link_
 use Rattle.frz_atlas.specs.Costs.{size_held}
 use Rattle.frz_atlas.specs.Loading.{opened_all}
 use Rattle.frz_atlas.specs.declared.fault.BackFault.TheVariants.{Refused}
-use Rattle.frz_report.specs.Reports.{report_text}
+use Rattle.frz_report.specs.Exits.{positions_of}
+use Rattle.frz_report.specs.Reports.{report_with}
 use Rattle.frz_answer.specs.declared.status.Status.{Status}
 use Rattle.frz_answer.specs.declared.status.Status.TheVariants.{Success, Table, Missing}
 use Rattle.frz_answer.specs.Answers.{Answer, says}
@@ -28,6 +29,9 @@ use Rattle.frz_atlas_prelude.specs.BackLines.{back_line}
 use Rattle.frz_atlas_prelude.specs.Names.{file_names_of, has_twice}
 use Rattle.frz_atlas_prelude.specs.TableRefusals.{TellsRefusal}
 use Rattle.frz_commands_atlas.specs.Checking.{check_costs}
+use Rattle.frz_commands_atlas.specs.declared.first_exits.FirstExit.{FirstExit}
+use Rattle.frz_commands_atlas.specs.FirstExits.{first_line, first_report_text, listed, rarity}
+use Rattle.frz_commands_atlas.specs.Ranked.{IsRanked}
 
 -- the value of an exit of a table over these: by its exit lines and, where it leans on them, by the
 -- first of these tables whose set holds the position where the lines say nothing
@@ -37,7 +41,7 @@ value_behind contents bytes tables = value_over (leans bytes) contents.rules (ba
 -- the report of a table over these, by the codes in it
 abbrev pub report_over : Contents → List ℕ → List TableBytes → List ℕ
 report_over contents bytes tables =
-    report_text contents.rules (value_behind contents bytes tables) (kept_codes contents bytes)
+    first_report_text contents.rules (value_behind contents bytes tables) (kept_codes contents bytes)
 
 -- the report of a file that opens, or the line that tells which BACK is refused first and why
 abbrev pub report_behind : Contents → List ℕ → Result (List TableBytes) (ℕ × TableFault) → Files
@@ -59,7 +63,8 @@ report_at table behind files =
     report_by (opened own_format (files table)) (bytes_at files table)
     (opened_all (map files behind)) files
 
--- the text is the report of TABLE over the BACKs. Where the codes in TABLE are its tables over
+-- the text is the report of TABLE over the BACKs, with the first position of each class of open exits,
+-- the most frequent class first. Where the codes in TABLE are its tables over
 -- them, each code that the report uses is that of the bound at its position, which says of chess
 -- what Means states, under the premise that the exits are true. They are true where the BACKs are
 -- exact, each over those before it, and the exit lines of all texts are true
@@ -70,7 +75,11 @@ pub record TellsReport (table : List ℕ) (behind : List (List ℕ)) (files : Fi
   pub open_file : OpensAsOwn table files bytes contents
   pub tables : List TableBytes
   pub all_open : opened_all (map files behind) ≡ Ok tables
-  pub told : text ≡ report_over contents bytes tables
+  pub rows : List FirstExit
+  pub ranked : IsRanked rarity
+      (listed (positions_of contents.rules (value_behind contents bytes tables))) rows
+  pub told : text ≡ report_with (flat_map first_line rows) contents.rules
+      (value_behind contents bytes tables) (kept_codes contents bytes)
   pub where_exact : KeepsTables (value_behind contents bytes tables) contents bytes →
       (side : Colour) (p : Board) → Member contents.rules.groups p →
       KeepsBound contents.rules (value_behind contents bytes tables) side p

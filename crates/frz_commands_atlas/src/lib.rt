@@ -5,6 +5,8 @@
 mod building;
 mod checking;
 mod each;
+mod first_back;
+mod first_exits;
 mod ranking;
 mod reporting;
 mod row_lines;

@@ -8,20 +8,21 @@ ghost use Rattle.frz_table.specs.Tables.{table_size};
 ghost use Rattle.frz_backs.specs.FileOn.{loaded_back};
 ghost use Rattle.frz_backs.specs.Links.{value_over};
 ghost use Rattle.frz_backs.specs.Loaded.{leans_as};
-ghost use Rattle.frz_report.specs.Reports.{WritesReport};
 ghost use Rattle.frz_answer.specs.World.{world};
 ghost use Rattle.frz_answer.specs.Ends.{Ran};
 ghost use Rattle.frz_atlas_prelude.specs.Names.{has_twice as is_twice};
 ghost use Rattle.frz_atlas_prelude.specs.declared.names.TheConstants.{MOST_BACKS};
+ghost use Rattle.frz_commands_atlas.specs.FirstExits.{WritesFirsts};
 ghost use Rattle.frz_commands_atlas.specs.Reporting.{reporting_at, report_words};
 
+use crate::first_exits::write_first_report;
 use frz_answer::{End, refuse};
 use frz_atlas::{LoadedAtlas, load_atlas};
 use frz_atlas_prelude::{end_at, names_with_backs};
 use frz_backs::{AtlasBook, BackTable};
 use frz_exits::{ExitBook, RuleBook};
 use frz_game::{Game, Pair};
-use frz_report::{ReportFault, Totals, end_of, write_report};
+use frz_report::{ReportFault, Totals, end_of};
 use frz_steps::Steps;
 use frz_store::{Sink, Store};
 use frz_table::FileKind;
@@ -36,7 +37,7 @@ fn report_by<B: ExitBook, O: Sink, L: Ledger>(
     out: &mut O,
     steps: &mut Steps<L>,
 ) -> Result<Totals, ReportFault>
-    ensures wrote { WritesReport table.now.table.rules (B.value_at book.now)
+    ensures wrote { WritesFirsts table.now.table.rules (B.value_at book.now)
         (λ side. of_side side table.now.white.items table.now.black.items) result
         (sink_of O.Sink out.old) (sink_of O.Sink out.new) }
     ensures stored { result ≡ Err ReportFault.Store → ⊥ }
@@ -52,7 +53,7 @@ fn report_by<B: ExitBook, O: Sink, L: Ledger>(
         white: &table.white,
         black: &table.black,
     };
-    write_report(alloc, &game, &entries, out, steps)
+    write_first_report(alloc, &game, &entries, out, steps)
 }
 
 /// Writes the report of a loaded table, over those behind it where it leans on them, by its codes as
@@ -63,7 +64,7 @@ fn report_loaded<O: Sink, L: Ledger>(
     out: &mut O,
     steps: &mut Steps<L>,
 ) -> Result<Totals, ReportFault>
-    ensures wrote { WritesReport loaded.now.table.table.rules
+    ensures wrote { WritesFirsts loaded.now.table.table.rules
         (value_over (leans_as loaded.now.table.table.kind) loaded.now.table.table.rules
         (map loaded_back loaded.now.backs.items))
         (λ side. of_side side loaded.now.table.white.items loaded.now.table.black.items) result

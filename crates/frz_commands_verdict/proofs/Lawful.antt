@@ -5,10 +5,10 @@ use Rattle.frz_fen.specs.Reading.{fen_of}
 use Rattle.frz_answer.specs.Lawful.{IsLawful}
 use Rattle.frz_prelude.proofs.Lemmas.{fen_lawful}
 use Rattle.frz_commands_verdict.specs.Verdicting.{verdict_named, verdict_on, verdict_words}
-use Rattle.frz_commands_verdict.specs.Words.{GivenNames}
+use Rattle.frz_atlas_prelude.specs.Given.{GivenNames}
 use Rattle.frz_commands_verdict.proofs.Meaning.{verdict_means}
 use Rattle.frz_commands_verdict.proofs.Once.{one_verdict}
-use Rattle.frz_commands_verdict.proofs.WordsGiven.{given_lawful}
+use Rattle.frz_atlas_prelude.proofs.Lemmas.{given_lawful}
 
 on_lawful : (table : List ℕ) (behind : List (List ℕ)) (p : Board)
     → IsLawful (verdict_on table behind p)

@@ -1,5 +1,4 @@
 pub mod Lemmas
-mod WordsGiven
 mod LastTable
 mod TrueVerdicts
 mod Meaning

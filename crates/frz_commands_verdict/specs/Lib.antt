@@ -1,5 +1,4 @@
 -- The command `verdict` of the program `atlas`: the definitions that its contracts cite.
-pub mod Words
 pub mod Verdicts
 pub mod Texts
 pub mod Finding

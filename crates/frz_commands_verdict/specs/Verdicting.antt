@@ -8,7 +8,7 @@ use Rattle.frz_prelude.specs.Positions.{on_position}
 use Rattle.frz_commands_verdict.specs.Answers.{IsVerdictAt, verdict_costs}
 use Rattle.frz_commands_verdict.specs.Finding.{names_over}
 use Rattle.frz_commands_verdict.specs.VerdictMeans.{MeansVerdict}
-use Rattle.frz_commands_verdict.specs.Words.{GivenNames, given_words}
+use Rattle.frz_atlas_prelude.specs.Given.{GivenNames, given_words}
 
 -- `verdict` with names no two of which are the same
 abbrev pub verdict_on : List ℕ → List (List ℕ) → Board → Job

@@ -16,11 +16,10 @@ ghost use Rattle.frz_commands_verdict.specs.Ending.{EndsVerdict, IsPlaceUpTo};
 ghost use Rattle.frz_commands_verdict.specs.Verdicting.{verdict_named, verdict_on, verdict_words};
 
 use crate::finding::find;
-use crate::names::{Given, names_given};
 use crate::texts::write_told;
 use frz_answer::{End, Status, refuse, said};
 use frz_atlas::{AtlasFault, BackFault};
-use frz_atlas_prelude::end_at;
+use frz_atlas_prelude::{Given, end_at, names_given};
 use frz_board::Position;
 use frz_fen::read_fen;
 use frz_prelude::{Refused, Stop, refuse_named, write_wrong};

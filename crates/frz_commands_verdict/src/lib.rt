@@ -4,7 +4,6 @@
 
 mod command;
 mod finding;
-mod names;
 mod texts;
 mod verdict;
 

@@ -6,7 +6,7 @@ use Rattle.std.proofs.lemmas.Bool.{or_right}
 use Rattle.std.proofs.lemmas.List.Elements.{filter-append}
 use Rattle.std.proofs.lemmas.Slice.Eq.{bytes_eq-Decides}
 use Rattle.std.proofs.lemmas.List.Sums.{sum_by-cons, sum_by_push}
-use Rattle.frz_report.specs.Census.{firsts, times}
+use Rattle.frz_report.specs.Census.{firsts, firsts_by, times}
 
 abbrev pub Class : Type 0
 Class = List ℕ
@@ -115,50 +115,66 @@ firsts_distinct [] = tt
 firsts_distinct (c ∷ cs) =
     (differs_others c (firsts cs), still_distinct (others c) (firsts cs) (firsts_distinct cs))
 
--- a class that was met leaves the first ones, and another goes last
+-- one of a class that was met leaves the first ones, and another goes last
+module _ {X : Type 0} (class : X → Class) where
+  abbrev apart : X → X → Bool
+  apart x y = not (bytes_eq (class x) (class y))
+
+  abbrev same : X → X → Bool
+  same x y = bytes_eq (class x) (class y)
+
+  pub firsts_by_more : (xs : List X) (x : X)
+      → firsts_by class (xs ++ x ∷ []) ≡ cond (list_any (same x) xs) (firsts_by class xs)
+      (firsts_by class xs ++ x ∷ [])
+  firsts_by_more [] x = refl
+  firsts_by_more (c ∷ cs) x = by_met (list_any (same x) cs) refl (firsts_by_more cs x)
+    where
+      goes : Bool → Type 0
+      goes met = (c ∷ filter (apart c) (firsts_by class (cs ++ x ∷ []))) ≡ cond met
+          (c ∷ filter (apart c) (firsts_by class cs))
+          ((c ∷ filter (apart c) (firsts_by class cs)) ++ x ∷ [])
+
+      whole : List X → List X
+      whole ks = c ∷ filter (apart c) ks
+
+      by_first : (b : Bool) → same x c ≡ b
+          → firsts_by class (cs ++ x ∷ []) ≡ firsts_by class cs ++ x ∷ [] → goes (b || false)
+      by_first true e h =
+          let alike : same c x ≡ true = equality_is_symmetric (class x) (class c) true e in
+          ap whole h
+          ∙ ap (λ (l : List X). c ∷ l)
+          (filter-append (apart c) (firsts_by class cs) (x ∷ [])
+          ∙ ap (λ (b : Bool). filter (apart c) (firsts_by class cs) ++ cond (not b) (x ∷ []) [])
+          alike
+          ∙ append-nil (filter (apart c) (firsts_by class cs)))
+      by_first false e h =
+          let other : same c x ≡ false = equality_is_symmetric (class x) (class c) false e in
+          ap whole h
+          ∙ ap (λ (l : List X). c ∷ l)
+          (filter-append (apart c) (firsts_by class cs) (x ∷ [])
+          ∙ ap (λ (b : Bool). filter (apart c) (firsts_by class cs) ++ cond (not b) (x ∷ []) [])
+          other)
+
+      by_met : (met : Bool) → list_any (same x) cs ≡ met
+          → firsts_by class (cs ++ x ∷ []) ≡ cond (list_any (same x) cs) (firsts_by class cs)
+          (firsts_by class cs ++ x ∷ [])
+          → goes (same x c || list_any (same x) cs)
+      by_met true e h =
+          let stays : firsts_by class (cs ++ x ∷ []) ≡ firsts_by class cs = h
+          ∙ ap (λ (b : Bool). cond b (firsts_by class cs) (firsts_by class cs ++ x ∷ [])) e in
+          let met : (same x c || list_any (same x) cs) ≡ true = or_right (same x c)
+          (list_any (same x) cs) e in
+          subst goes (sym met) (ap whole stays)
+      by_met false e h =
+          let grows : firsts_by class (cs ++ x ∷ []) ≡ firsts_by class cs ++ x ∷ [] = h
+          ∙ ap (λ (b : Bool). cond b (firsts_by class cs) (firsts_by class cs ++ x ∷ [])) e in
+          let met : (same x c || list_any (same x) cs) ≡ (same x c || false) =
+          ap (λ (b : Bool). same x c || b) e in
+          subst goes (sym met) (by_first (same x c) refl grows)
+
 pub firsts_more : (cs : List Class) (x : Class)
     → firsts (cs ++ x ∷ []) ≡ cond (list_any (bytes_eq x) cs) (firsts cs) (firsts cs ++ x ∷ [])
-firsts_more [] x = refl
-firsts_more (c ∷ cs) x = by_met (list_any (bytes_eq x) cs) refl (firsts_more cs x)
-  where
-    goes : Bool → Type 0
-    goes met = (c ∷ filter (others c) (firsts (cs ++ x ∷ []))) ≡ cond met
-        (c ∷ filter (others c) (firsts cs)) ((c ∷ filter (others c) (firsts cs)) ++ x ∷ [])
-
-    whole : Class → List Class → List Class
-    whole c ks = c ∷ filter (others c) ks
-
-    by_first : (b : Bool) → bytes_eq x c ≡ b → firsts (cs ++ x ∷ []) ≡ firsts cs ++ x ∷ []
-        → goes (b || false)
-    by_first true e h =
-        let same : bytes_eq c x ≡ true = equality_is_symmetric x c true e in
-        ap (whole c) h
-        ∙ ap (λ (l : List Class). c ∷ l)
-        (filter-append (others c) (firsts cs) (x ∷ [])
-        ∙ ap (λ (b : Bool). filter (others c) (firsts cs) ++ cond (not b) (x ∷ []) []) same
-        ∙ append-nil (filter (others c) (firsts cs)))
-    by_first false e h =
-        let apart : bytes_eq c x ≡ false = equality_is_symmetric x c false e in
-        ap (whole c) h
-        ∙ ap (λ (l : List Class). c ∷ l)
-        (filter-append (others c) (firsts cs) (x ∷ [])
-        ∙ ap (λ (b : Bool). filter (others c) (firsts cs) ++ cond (not b) (x ∷ []) []) apart)
-
-    by_met : (met : Bool) → list_any (bytes_eq x) cs ≡ met
-        → firsts (cs ++ x ∷ []) ≡ cond (list_any (bytes_eq x) cs) (firsts cs) (firsts cs ++ x ∷ [])
-        → goes (bytes_eq x c || list_any (bytes_eq x) cs)
-    by_met true e h =
-        let same : firsts (cs ++ x ∷ []) ≡ firsts cs = h
-        ∙ ap (λ (b : Bool). cond b (firsts cs) (firsts cs ++ x ∷ [])) e in
-        let met : (bytes_eq x c || list_any (bytes_eq x) cs) ≡ true = or_right (bytes_eq x c)
-        (list_any (bytes_eq x) cs) e in
-        subst goes (sym met) (ap (whole c) same)
-    by_met false e h =
-        let more : firsts (cs ++ x ∷ []) ≡ firsts cs ++ x ∷ [] = h
-        ∙ ap (λ (b : Bool). cond b (firsts cs) (firsts cs ++ x ∷ [])) e in
-        let met : (bytes_eq x c || list_any (bytes_eq x) cs) ≡ (bytes_eq x c || false) =
-        ap (λ (b : Bool). bytes_eq x c || b) e in
-        subst goes (sym met) (by_first (bytes_eq x c) refl more)
+firsts_more cs x = firsts_by_more (λ c. c) cs x
 
 abbrev pub once : Bool → ℕ
 once b = cond b 1 0

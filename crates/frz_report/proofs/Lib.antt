@@ -1,6 +1,7 @@
 mod Censuses
 mod Classing
 mod Entries
+mod FirstOnes
 mod Loading
 mod Looking
 mod Numbering

@@ -16,10 +16,10 @@ use Rattle.frz_answer.specs.Texts.{TookText, FailedWithin}
 use Rattle.frz_answer.proofs.Lemmas.{took_nothing}
 use Rattle.frz_report.specs.declared.fault.ReportFault.{ReportFault}
 use Rattle.frz_report.specs.declared.fault.ReportFault.TheVariants.{NoMemory, Output}
-use Rattle.frz_report.specs.Exits.{classes_after, exits_below}
+use Rattle.frz_report.specs.Exits.{class_of, classes_after, exits_below, positions_after, positions_below, seen_after, seen_below}
 use Rattle.frz_report.specs.Squeezes.{squeeze_at, squeeze_on}
-use Rattle.frz_report.specs.Walks.{Counts, WritesSome, line_of, one_of}
-use Rattle.frz_report.proofs.Walking.{exits_more, exits_there, few_classes, front_nothing, no_exits_there, no_squeeze_there, squeeze_there}
+use Rattle.frz_report.specs.Walks.{Counts, KeepsFirsts, WritesSome, line_of, one_of}
+use Rattle.frz_report.proofs.Walking.{few_classes, front_nothing, no_squeeze_there, none_seen_there, seen_more, seen_there, squeeze_there}
 
 -- what holds of a fault holds of the result that passes it on
 pub holds_of_known_fault : {T : Type 0} (P : Result T ReportFault → Type 0) (fault : ReportFault)
@@ -45,11 +45,25 @@ module _ (rules : RuleLines) (value : Board → Value) (n : ℕ) where
   module _ (p : Board) (arms : List (Arm Step ℕ Value))
       (there : position_at rules.groups n ≡ Some p)
       (are : arms ≡ (graph_by rules value).arms n) where
+    seen_of_one_more : {X : Type 0} (see : Board → X)
+        → seen_below see rules value n ++ seen_after see p arms ≡ seen_below see rules value (n + 1)
+    seen_of_one_more {X} see =
+        ap (λ (l : List (Arm Step ℕ Value)). seen_below see rules value n ++ seen_after see p l) are
+        ∙ ap (λ (l : List X). seen_below see rules value n ++ l)
+        (sym (seen_there see rules value n p there))
+        ∙ sym (seen_more see rules value n)
+
     exits_of_one_more : exits n ++ classes_after p arms ≡ exits (n + 1)
-    exits_of_one_more =
-        ap (λ (l : List (Arm Step ℕ Value)). exits n ++ classes_after p l) are
-        ∙ ap (λ (l : List (List ℕ)). exits n ++ l) (sym (exits_there rules value n p there))
-        ∙ sym (exits_more rules value n)
+    exits_of_one_more = seen_of_one_more class_of
+
+    pub firsts_more : (entries more : List (ArrayString × ℕ)) (firsts grown : List Board)
+        → ((exits : List Board) → KeepsFirsts entries firsts exits
+        → KeepsFirsts more grown (exits ++ positions_after p arms))
+        → KeepsFirsts entries firsts (positions_below rules value n)
+        → KeepsFirsts more grown (positions_below rules value (n + 1))
+    firsts_more entries more firsts grown keeps before =
+        subst (KeepsFirsts more grown) (seen_of_one_more (λ q. q))
+        (keeps (positions_below rules value n) before)
 
     pub counted_more : (entries more : List (ArrayString × ℕ))
         → ((exits : List (List ℕ)) → Counts entries exits
@@ -70,9 +84,20 @@ module _ (rules : RuleLines) (value : Board → Value) (n : ℕ) where
   few_with_one_more p arms before now few low h = let some = few_classes p arms in omega arith
 
   module _ (none : position_at rules.groups n ≡ None) where
+    same_seen : {X : Type 0} (see : Board → X)
+        → seen_below see rules value n ≡ seen_below see rules value (n + 1)
+    same_seen {X} see =
+        sym (append-nil (seen_below see rules value n))
+        ∙ ap (λ (l : List X). seen_below see rules value n ++ l)
+        (sym (none_seen_there see rules value n none)) ∙ sym (seen_more see rules value n)
+
     same_exits : exits n ≡ exits (n + 1)
-    same_exits = sym (append-nil (exits n)) ∙ ap (λ (l : List (List ℕ)). exits n ++ l)
-        (sym (no_exits_there rules value n none)) ∙ sym (exits_more rules value n)
+    same_exits = same_seen class_of
+
+    pub firsts_same : (entries : List (ArrayString × ℕ)) (firsts : List Board)
+        → KeepsFirsts entries firsts (positions_below rules value n)
+        → KeepsFirsts entries firsts (positions_below rules value (n + 1))
+    firsts_same entries firsts h = subst (KeepsFirsts entries firsts) (same_seen (λ q. q)) h
 
     pub counts_same : (entries : List (ArrayString × ℕ)) → Counts entries (exits n)
         → Counts entries (exits (n + 1))

@@ -10,7 +10,7 @@ use Rattle.frz_sets.specs.Views.{RuleLines}
 use Rattle.frz_index.specs.Members.{Member, Num}
 use Rattle.frz_arena.specs.Chess.{NeverForcesMate}
 use Rattle.frz_arena.specs.Codes.{is_failure, is_win}
-use Rattle.frz_arena.specs.WholeTruth.{CanForceMate, IsDead}
+use Rattle.frz_arena.specs.WholeTruth.{CanForceMate}
 use Rattle.frz_arena.proofs.Lemmas.{win_and_failure}
 use Rattle.frz_game.specs.ExactTables.{HasExactOutcomes}
 use Rattle.frz_game.specs.Games.{chess}

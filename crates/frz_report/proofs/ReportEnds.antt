@@ -23,7 +23,7 @@ use Rattle.frz_report.specs.declared.fault.ReportFault.{ReportFault}
 use Rattle.frz_report.specs.declared.fault.ReportFault.TheVariants as faults
 use Rattle.frz_report.specs.declared.fault.Totals.{Totals}
 use Rattle.frz_report.specs.Ending.{end_by}
-use Rattle.frz_report.specs.Reports.{StoreCause, WritesReport, report_text}
+use Rattle.frz_report.specs.Reports.{StoreCause, WritesWith, report_with}
 use Rattle.frz_report.proofs.Writing.{report_said}
 
 -- a job that calls the store, writes no file, speaks line by line and may succeed
@@ -34,12 +34,12 @@ pub record MayReport (job : Job) : Type 0 where
   pub writes : job.writes ≡ None
   pub own : OneOf Success job.statuses
 
-module _ (job : Job) (may : MayReport job) (rules : RuleLines) (value : Board → Value)
+module _ (job : Job) (may : MayReport job) (classes : List ℕ) (rules : RuleLines) (value : Board → Value)
     (kept : Colour → List ℕ) (old new : StoreTold) (input : SourceTold)
     (out_old out_new : SinkTold) (before now : ℕ) (quiet : StoreQuiet old new)
     (later : before ≤ now) where
   abbrev whole : List ℕ
-  whole = report_text rules value kept
+  whole = report_with classes rules value kept
 
   abbrev start : World
   start = world old input out_old before
@@ -104,7 +104,7 @@ module _ (job : Job) (may : MayReport job) (rules : RuleLines) (value : Board �
 
     -- by what was written of the report
     pub report_ended : (result : Result Totals ReportFault) → StoreCause result old new
-        → WritesReport rules value kept result out_old out_new
+        → WritesWith classes rules value kept result out_old out_new
         → Ran job (end_by result) start finish
     report_ended (Ok totals) fine h =
         let all : h.text ≡ whole = sym (append-nil h.text)
@@ -132,4 +132,4 @@ module _ (job : Job) (may : MayReport job) (rules : RuleLines) (value : Board �
     nothing_reported fault meets same =
         halted_so fault [] whole meets (inl refl)
         (subst (λ (o : SinkTold). TookText [] out_old o) (sym same) (took_nothing out_old)) refl
-        (report_said rules value kept)
+        (report_said classes rules value kept)

@@ -30,7 +30,7 @@ use Rattle.frz_answer.specs.Texts.{TookText, FailedWithin}
 use Rattle.frz_answer.proofs.Lemmas.{failed_before, failed_behind, took_behind, took_nothing, lines_behind}
 use Rattle.frz_report.specs.declared.fault.ReportFault.{ReportFault}
 use Rattle.frz_report.specs.declared.fault.ReportFault.TheVariants.{Store, Output, NoMemory}
-use Rattle.frz_report.specs.Exits.{class_of, classes_after, classes_on, exits_at, exits_below, is_open}
+use Rattle.frz_report.specs.Exits.{class_of, classes_after, is_open, seen_after, seen_at, seen_below, seen_on}
 use Rattle.arrayvec.specs.ArrayString.{ArrayString}
 use Rattle.frz_report.specs.Lines.{class_line, pair_line, squeeze_line}
 use Rattle.frz_report.specs.Squeezes.{Squeeze, squeeze_at, squeeze_on, squeezes_below}
@@ -47,24 +47,25 @@ pub numbers_more : (n : ℕ) → range_with_len 0 (n + 1) ≡ range_with_len 0 n
 numbers_more n = ap (range_with_len 0) (add-one n) ∙ range_more 0 n
     ∙ ap (λ (k : ℕ). range_with_len 0 n ++ k ∷ []) (omega arith)
 
--- the exits of one more number
-pub exits_more : (rules : RuleLines) (value : Board → Value) (n : ℕ)
-    → exits_below rules value (n + 1) ≡ exits_below rules value n ++ exits_at rules value n
-exits_more rules value n =
-    ap (flat_map (exits_at rules value)) (numbers_more n) ∙ flat_map-append (exits_at rules value)
-    (range_with_len 0 n) (n ∷ [])
-    ∙ ap (λ (l : List (List ℕ)). exits_below rules value n ++ l)
-    (append-nil (exits_at rules value n))
+module _ {X : Type 0} (see : Board → X) (rules : RuleLines) (value : Board → Value) where
+  -- what is seen at one more number
+  pub seen_more : (n : ℕ)
+      → seen_below see rules value (n + 1) ≡ seen_below see rules value n
+      ++ seen_at see rules value n
+  seen_more n =
+      ap (flat_map (seen_at see rules value)) (numbers_more n)
+      ∙ flat_map-append (seen_at see rules value) (range_with_len 0 n) (n ∷ [])
+      ∙ ap (λ (l : List X). seen_below see rules value n ++ l)
+      (append-nil (seen_at see rules value n))
 
--- where a number has this position, its exits are those after its moves
-pub exits_there : (rules : RuleLines) (value : Board → Value) (i : ℕ) (p : Board)
-    → position_at rules.groups i ≡ Some p
-    → exits_at rules value i ≡ classes_after p ((graph_by rules value).arms i)
-exits_there rules value i p at = ap (classes_on ((graph_by rules value).arms i)) at
+  -- where a number has this position, its exits are those after its moves
+  pub seen_there : (i : ℕ) (p : Board) → position_at rules.groups i ≡ Some p
+      → seen_at see rules value i ≡ seen_after see p ((graph_by rules value).arms i)
+  seen_there i p at = ap (seen_on see ((graph_by rules value).arms i)) at
 
-pub no_exits_there : (rules : RuleLines) (value : Board → Value) (i : ℕ)
-    → position_at rules.groups i ≡ None → exits_at rules value i ≡ []
-no_exits_there rules value i at = ap (classes_on ((graph_by rules value).arms i)) at
+  pub none_seen_there : (i : ℕ) → position_at rules.groups i ≡ None
+      → seen_at see rules value i ≡ []
+  none_seen_there i at = ap (seen_on see ((graph_by rules value).arms i)) at
 
 all_legal : (p : Board) → All (λ m. is_legal p m ≡ true) (legal_moves_of p)
 all_legal p = λ k d within.
@@ -262,22 +263,26 @@ all_classes all over old now none so_far =
     ∙ ap (λ (l : List (ArrayString × ℕ)). so_far.text ++ flat_map class_line (lettered l))
     (sym none) ∙ so_far.rest) so_far.took
 
--- the classes after some moves, and after more of them
-classes_append : (p : Board) (arms more : List (Arm Step ℕ Value))
-    → classes_after p (arms ++ more) ≡ classes_after p arms ++ classes_after p more
-classes_append p arms more =
-    ap (map (λ (a : Arm Step ℕ Value). class_of (after p a.mv)))
-    (filter-append (λ (a : Arm Step ℕ Value). is_open a.next) arms more)
-    ∙ map-append (λ (a : Arm Step ℕ Value). class_of (after p a.mv))
-    (filter (λ (a : Arm Step ℕ Value). is_open a.next) arms)
-    (filter (λ (a : Arm Step ℕ Value). is_open a.next) more)
+-- what is seen after some moves, and after more of them
+module _ {X : Type 0} (see : Board → X) (p : Board) where
+  seen_append : (arms more : List (Arm Step ℕ Value))
+      → seen_after see p (arms ++ more) ≡ seen_after see p arms ++ seen_after see p more
+  seen_append arms more =
+      ap (map (λ (a : Arm Step ℕ Value). see (after p a.mv)))
+      (filter-append (λ (a : Arm Step ℕ Value). is_open a.next) arms more)
+      ∙ map-append (λ (a : Arm Step ℕ Value). see (after p a.mv))
+      (filter (λ (a : Arm Step ℕ Value). is_open a.next) arms)
+      (filter (λ (a : Arm Step ℕ Value). is_open a.next) more)
 
-pub classes_more : (p : Board) (arms : List (Arm Step ℕ Value)) (i : ℕ) (d : Arm Step ℕ Value)
-    → i < length arms
-    → classes_after p (take (i + 1) arms) ≡ classes_after p (take i arms) ++ classes_after p
-    (get_or arms i d ∷ [])
-classes_more p arms i d within = ap (classes_after p) (take_more arms i d within)
-    ∙ classes_append p (take i arms) (get_or arms i d ∷ [])
+  pub seen_step : (arms : List (Arm Step ℕ Value)) (i : ℕ) (a : Arm Step ℕ Value)
+      → i < length arms → a ≡ get_or arms i a
+      → seen_after see p (take (i + 1) arms) ≡ seen_after see p (take i arms) ++ seen_after see p
+      (a ∷ [])
+  seen_step arms i a within is =
+      ap (seen_after see p) (take_more arms i a within)
+      ∙ seen_append (take i arms) (get_or arms i a ∷ [])
+      ∙ ap (λ (x : Arm Step ℕ Value). seen_after see p (take i arms) ++ seen_after see p (x ∷ []))
+      (sym is)
 
 many_mapped : {A B : Type 0} (f : A → B) (xs : List A) → length (map f xs) ≡ length xs
 many_mapped f [] = refl
@@ -305,22 +310,13 @@ few_front p arms i within =
     let front : length (take i arms) ≡ i = length-take-le i arms within in
     omega arith
 
-pub classes_step : (p : Board) (arms : List (Arm Step ℕ Value)) (i : ℕ) (a : Arm Step ℕ Value)
-    → i < length arms → a ≡ get_or arms i a
-    → classes_after p (take (i + 1) arms) ≡ classes_after p (take i arms) ++ classes_after p
-    (a ∷ [])
-classes_step p arms i a within is =
-    classes_more p arms i a within
-    ∙ ap (λ (x : Arm Step ℕ Value). classes_after p (take i arms) ++ classes_after p (x ∷ []))
-    (sym is)
-
 -- a move that is no open exit, and one that is
-pub closed_none : (p : Board) (a : Arm Step ℕ Value) → is_open a.next ≡ false
-    → classes_after p (a ∷ []) ≡ []
-closed_none p a e = ap
-    (λ (b : Bool). map (λ (a : Arm Step ℕ Value). class_of (after p a.mv)) (cond b (a ∷ []) [])) e
+pub closed_none : {X : Type 0} (see : Board → X) (p : Board) (a : Arm Step ℕ Value)
+    → is_open a.next ≡ false → seen_after see p (a ∷ []) ≡ []
+closed_none see p a e = ap
+    (λ (b : Bool). map (λ (a : Arm Step ℕ Value). see (after p a.mv)) (cond b (a ∷ []) [])) e
 
-pub open_one : (p : Board) (a : Arm Step ℕ Value) → is_open a.next ≡ true
-    → classes_after p (a ∷ []) ≡ class_of (after p a.mv) ∷ []
-open_one p a e = ap (λ (b : Bool). map (λ (a : Arm Step ℕ Value). class_of (after p a.mv))
+pub open_one : {X : Type 0} (see : Board → X) (p : Board) (a : Arm Step ℕ Value)
+    → is_open a.next ≡ true → seen_after see p (a ∷ []) ≡ see (after p a.mv) ∷ []
+open_one see p a e = ap (λ (b : Bool). map (λ (a : Arm Step ℕ Value). see (after p a.mv))
     (cond b (a ∷ []) [])) e

@@ -1,6 +1,6 @@
 -- A report that is written line by line.
 use Rattle.std.proofs.Common.{◌≡◌, refl, sym, ap, ◌∙◌, inr, ℕ, List, [], ◌∷◌, ◌++◌, length, Ok, Err, append_assoc, append-nil, codes}
-use Rattle.std.specs.Prelude.{flat_map, decimal}
+use Rattle.std.specs.Prelude.{decimal}
 use Rattle.frz_board.specs.declared.man.Colour.{Colour}
 use Rattle.frz_board.specs.Boards.{Board}
 use Rattle.frz_sets.specs.declared.exit.Value.{Value}
@@ -13,10 +13,9 @@ use Rattle.frz_answer.proofs.Lemmas.{failed_before, failed_behind, took_behind, 
 use Rattle.frz_report.specs.declared.fault.ReportFault.{ReportFault}
 use Rattle.frz_report.specs.declared.fault.ReportFault.TheVariants.{Store, Output, NoMemory}
 use Rattle.frz_report.specs.declared.fault.Totals.{Totals}
-use Rattle.frz_report.specs.Census.{census}
 use Rattle.frz_report.specs.Exits.{exits_of}
-use Rattle.frz_report.specs.Lines.{class_line, last_line}
-use Rattle.frz_report.specs.Reports.{Finishes, WritesReport, WroteBy, report_text, totals_of}
+use Rattle.frz_report.specs.Lines.{last_line}
+use Rattle.frz_report.specs.Reports.{Finishes, WritesWith, WroteBy, report_with, totals_of}
 use Rattle.frz_report.specs.Squeezes.{squeezes}
 use Rattle.frz_report.specs.Walks.{TookFront, WritesSome, lines_below}
 use Rattle.frz_report.proofs.Walking.{are_lines}
@@ -24,18 +23,16 @@ use Rattle.frz_report.proofs.Walking.{are_lines}
 last_line_not_empty : (many exits : ℕ) → last_line many exits ≡ [] → ⊥
 last_line_not_empty many exits e = cc
 
-module _ (rules : RuleLines) (value : Board → Value) (kept : Colour → List ℕ) where
+module _ (classes : List ℕ) (rules : RuleLines) (value : Board → Value)
+    (kept : Colour → List ℕ) where
   abbrev first : List ℕ
   first = lines_below rules kept (size_of rules.groups)
-
-  abbrev classes : List ℕ
-  classes = flat_map class_line (census (exits_of rules value))
 
   abbrev last : List ℕ
   last = last_line (length (squeezes rules.groups kept)) (length (exits_of rules value))
 
   abbrev whole : List ℕ
-  whole = report_text rules value kept
+  whole = report_with classes rules value kept
 
   rest_not_empty : classes ++ last ≡ [] → ⊥
   rest_not_empty = behind_said classes last
@@ -70,7 +67,7 @@ module _ (rules : RuleLines) (value : Board → Value) (kept : Colour → List �
       → ((text : List ℕ) → TookText text old new → WroteBy {T = Totals} (Err fault) text old new)
       → ((rest : List ℕ) → (rest ≡ [] → ⊥)
       → Finishes (Err fault) (totals_of rules value kept) rest)
-      → TookFront first old new → WritesReport rules value kept (Err fault) old new
+      → TookFront first old new → WritesWith classes rules value kept (Err fault) old new
   front_written fault old new wrote finishes front = record {
     text = front.text;
     rest = front.rest ++ (classes ++ last);
@@ -85,7 +82,7 @@ module _ (rules : RuleLines) (value : Board → Value) (kept : Colour → List �
   -- something stopped the walk
   pub stopped_early : (fault : ReportFault) (many : ℕ) (old new : SinkTold)
       → WritesSome (Err fault) first many old new
-      → WritesReport rules value kept (Err fault) old new
+      → WritesWith classes rules value kept (Err fault) old new
   stopped_early Output many old new failed = record {
     text = first;
     rest = classes ++ last;
@@ -99,8 +96,20 @@ module _ (rules : RuleLines) (value : Board → Value) (kept : Colour → List �
   stopped_early NoMemory many old new front =
       front_written NoMemory old new (λ text took. took) (λ rest more. more) front
 
+  -- there was no memory for the lines of the classes
+  pub stopped_behind : (old new : SinkTold) → TookText first old new
+      → WritesWith classes rules value kept (Err NoMemory) old new
+  stopped_behind old new took = record {
+    text = first;
+    rest = classes ++ last;
+    lines = are_lines rules kept (size_of rules.groups);
+    wrote = took;
+    begins = refl;
+    finishes = rest_not_empty;
+  }
+
   failed_whole : (old new : SinkTold) → FailedWithin whole old new
-      → WritesReport rules value kept (Err Output) old new
+      → WritesWith classes rules value kept (Err Output) old new
   failed_whole old new failed = record {
     text = whole;
     rest = [];
@@ -113,7 +122,7 @@ module _ (rules : RuleLines) (value : Board → Value) (kept : Colour → List �
   module _ (old mid : SinkTold) (took : TookText first old mid) where
     -- the sink failed within the lines of the classes
     pub classes_failed : (new : SinkTold) → FailedWithin classes mid new
-        → WritesReport rules value kept (Err Output) old new
+        → WritesWith classes rules value kept (Err Output) old new
     classes_failed new failed =
         failed_whole old new
         (failed_before (first ++ classes) last whole old new
@@ -126,7 +135,7 @@ module _ (rules : RuleLines) (value : Board → Value) (kept : Colour → List �
 
       -- within the last line
       pub last_failed : (new : SinkTold) → FailedWithin last then new
-          → WritesReport rules value kept (Err Output) old new
+          → WritesWith classes rules value kept (Err Output) old new
       last_failed new failed =
           failed_whole old new
           (failed_behind (first ++ classes) last whole old then new took_both parts_are_whole
@@ -135,7 +144,7 @@ module _ (rules : RuleLines) (value : Board → Value) (kept : Colour → List �
       -- all of it was written
       pub all_written : (new : SinkTold) (totals : Totals) → totals ≡ totals_of rules value kept
           → TookText last then new
-          → WritesReport rules value kept (Ok totals) old new
+          → WritesWith classes rules value kept (Ok totals) old new
       all_written new totals is end = record {
         text = whole;
         rest = [];

@@ -2,10 +2,15 @@
 use Rattle.std.specs.Prelude.{ℕ, not, List, [], ◌∷◌, map, filter, count_by}
 use Rattle.std.specs.Str.{bytes_eq}
 
+-- the first of each class, in the order in which they are met
+abbrev pub firsts_by : {X : Type 0} → (class : X → List ℕ) → List X → List X
+firsts_by class [] = []
+firsts_by class (x ∷ xs) =
+    x ∷ filter (λ y. not (bytes_eq (class x) (class y))) (firsts_by class xs)
+
 -- each class once, in the order in which they are first met
 abbrev pub firsts : List (List ℕ) → List (List ℕ)
-firsts [] = []
-firsts (c ∷ cs) = c ∷ filter (λ d. not (bytes_eq c d)) (firsts cs)
+firsts = firsts_by (λ c. c)
 
 -- how often the class occurs
 abbrev pub times : List (List ℕ) → List ℕ → ℕ

@@ -28,21 +28,49 @@ letters_in cells cell = replicate (count_by (λ c. c == cell) cells) (letter_of 
 abbrev pub class_of : Board → List ℕ
 class_of p = flat_map (letters_in p.cells) (range_with_len 1 12)
 
--- the classes after those moves of a position that are open exits, free or not, in their order
+-- what is seen of the positions after those moves that are open exits, free or not, in their order
+abbrev pub seen_after : {X : Type 0} → (Board → X) → Board → List (Arm Step ℕ Value) → List X
+seen_after see p arms = map (λ a. see (after p a.mv)) (filter (λ a. is_open a.next) arms)
+
+abbrev pub seen_on : {X : Type 0} → (Board → X) → List (Arm Step ℕ Value) → Option Board → List X
+seen_on see arms None = []
+seen_on see arms (Some p) = seen_after see p arms
+
+-- what is seen after the open exits at a number, in move order
+abbrev pub seen_at : {X : Type 0} → (Board → X) → RuleLines → (Board → Value) → ℕ → List X
+seen_at see rules value i =
+    seen_on see ((graph_by rules value).arms i) (position_at rules.groups i)
+
+-- what is seen after the open exits at the numbers below n, by number
+abbrev pub seen_below : {X : Type 0} → (Board → X) → RuleLines → (Board → Value) → ℕ → List X
+seen_below see rules value n = flat_map (seen_at see rules value) (range_with_len 0 n)
+
+-- the positions after the open exits among these moves of a position
+abbrev pub positions_after : Board → List (Arm Step ℕ Value) → List Board
+positions_after = seen_after (λ q. q)
+
+-- the positions after the open exits at the numbers below n
+abbrev pub positions_below : RuleLines → (Board → Value) → ℕ → List Board
+positions_below = seen_below (λ q. q)
+
+-- the positions after all open exits, by number and there in move order
+abbrev pub positions_of : RuleLines → (Board → Value) → List Board
+positions_of rules value = positions_below rules value (size_of rules.groups)
+
+-- the classes after the open exits among these moves of a position
 abbrev pub classes_after : Board → List (Arm Step ℕ Value) → List (List ℕ)
-classes_after p arms = map (λ a. class_of (after p a.mv)) (filter (λ a. is_open a.next) arms)
+classes_after = seen_after class_of
 
 abbrev pub classes_on : List (Arm Step ℕ Value) → Option Board → List (List ℕ)
-classes_on arms None = []
-classes_on arms (Some p) = classes_after p arms
+classes_on = seen_on class_of
 
 -- the classes of the open exits at a number, in move order
 abbrev pub exits_at : RuleLines → (Board → Value) → ℕ → List (List ℕ)
-exits_at rules value i = classes_on ((graph_by rules value).arms i) (position_at rules.groups i)
+exits_at = seen_at class_of
 
 -- the classes of the open exits at the numbers below n, by number
 abbrev pub exits_below : RuleLines → (Board → Value) → ℕ → List (List ℕ)
-exits_below rules value n = flat_map (exits_at rules value) (range_with_len 0 n)
+exits_below = seen_below class_of
 
 -- the classes of all open exits
 abbrev pub exits_of : RuleLines → (Board → Value) → List (List ℕ)

@@ -24,13 +24,20 @@ use Rattle.frz_report.specs.Exits.{exits_of}
 use Rattle.frz_report.specs.Census.{census}
 use Rattle.frz_report.specs.Lines.{squeeze_line, class_line, last_line}
 
--- the text of a report: the squeezes by their numbers, the classes of open exits as they are first
--- met, and the totals
-abbrev pub report_text : RuleLines → (Board → Value) → (Colour → List ℕ) → List ℕ
-report_text rules value codes =
+-- the text of a report: the squeezes by their numbers, these lines of the classes of open exits, and
+-- the totals
+abbrev pub report_with : (classes : List ℕ) → RuleLines → (Board → Value) → (Colour → List ℕ)
+    → List ℕ
+report_with classes rules value codes =
     flat_map squeeze_line (squeezes rules.groups codes)
-    ++ (flat_map class_line (census (exits_of rules value))
-    ++ last_line (length (squeezes rules.groups codes)) (length (exits_of rules value)))
+    ++ (classes ++ last_line (length (squeezes rules.groups codes)) (length (exits_of rules value)))
+
+-- the classes of open exits as they are first met, a line each
+abbrev pub classes_text : RuleLines → (Board → Value) → List ℕ
+classes_text rules value = flat_map class_line (census (exits_of rules value))
+
+abbrev pub report_text : RuleLines → (Board → Value) → (Colour → List ℕ) → List ℕ
+report_text rules value = report_with (classes_text rules value) rules value
 
 -- the totals of the last line
 abbrev pub totals_of : RuleLines → (Board → Value) → (Colour → List ℕ) → Totals
@@ -56,17 +63,22 @@ Finishes (Ok totals) answer rest = (totals ≡ answer) × (rest ≡ [])
 Finishes (Err Output) answer rest = ⊤
 Finishes (Err fault) answer rest = rest ≢ []
 
--- whole lines that begin the report were written, and all of it where the totals are answered
-pub record WritesReport
-    (rules : RuleLines) (value : Board → Value) (codes : Colour → List ℕ)
+-- whole lines that begin the report with these lines of the classes were written, and all of it where
+-- the totals are answered
+pub record WritesWith
+    (classes : List ℕ) (rules : RuleLines) (value : Board → Value) (codes : Colour → List ℕ)
     (result : Result Totals ReportFault)
     (old new : SinkTold) : Type 0 where
   pub text : List ℕ
   pub rest : List ℕ
   pub lines : IsLines text
   pub wrote : WroteBy result text old new
-  pub begins : text ++ rest ≡ report_text rules value codes
+  pub begins : text ++ rest ≡ report_with classes rules value codes
   pub finishes : Finishes result (totals_of rules value codes) rest
+
+abbrev pub WritesReport : RuleLines → (Board → Value) → (Colour → List ℕ)
+    → Result Totals ReportFault → SinkTold → SinkTold → Type 0
+WritesReport rules value = WritesWith (classes_text rules value) rules value
 
 -- the report of a file that the table's name may hold was written, as far as the result says
 pub record WritesOfFile

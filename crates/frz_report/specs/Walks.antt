@@ -1,14 +1,17 @@
 -- What a walk over the numbers has written and counted so far.
-use Rattle.std.specs.Prelude.{◌≡◌, ℕ, List, [], ◌++◌, map, flat_map, Option, Some, None, Result, Ok, Err, Bool, true, false}
+use Rattle.std.specs.Prelude.{◌≡◌, ℕ, List, [], ◌++◌, map, flat_map, Option, Some, None, Result, Ok, Err, Bool, true, false, All}
 use Rattle.arrayvec.specs.ArrayString.{ArrayString}
 use Rattle.frz_board.specs.declared.man.Colour.{Colour}
+use Rattle.frz_board.specs.Boards.{Board}
+use Rattle.frz_fide.specs.Valid.{IsValid}
 use Rattle.frz_sets.specs.Views.{RuleLines}
 use Rattle.frz_store.specs.Told.{SinkTold}
 use Rattle.frz_answer.specs.Answers.{IsLines}
 use Rattle.frz_answer.specs.Texts.{TookText, FailedWithin}
 use Rattle.frz_report.specs.declared.fault.ReportFault.{ReportFault}
 use Rattle.frz_report.specs.declared.fault.ReportFault.TheVariants.{Output}
-use Rattle.frz_report.specs.Census.{census}
+use Rattle.frz_report.specs.Census.{census, firsts_by}
+use Rattle.frz_report.specs.Exits.{class_of}
 use Rattle.frz_report.specs.Lines.{squeeze_line}
 use Rattle.frz_report.specs.Squeezes.{Squeeze, squeezes_below}
 
@@ -24,6 +27,15 @@ lettered entries = map (λ e. (e.0.bytes, e.1)) entries
 -- the entries are the census of these exits
 abbrev pub Counts : List (ArrayString × ℕ) → List (List ℕ) → Type 0
 Counts entries exits = lettered entries ≡ census exits
+
+-- these valid positions are the first ones of each class among the exits
+pub record IsFirsts (firsts exits : List Board) : Type 0 where
+  pub are : firsts ≡ firsts_by class_of exits
+  pub valid : All IsValid firsts
+
+-- the entries are the census of these exits, and the positions are the first ones of each class
+abbrev pub KeepsFirsts : List (ArrayString × ℕ) → (firsts exits : List Board) → Type 0
+KeepsFirsts entries firsts exits = Counts entries (map class_of exits) × IsFirsts firsts exits
 
 -- the line of a squeeze, where there is one
 abbrev pub line_of : Option Squeeze → List ℕ

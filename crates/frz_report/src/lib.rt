@@ -1,7 +1,7 @@
 //! Reports of tables: the mutual zugzwangs of a set, and the exits that no exit line values yet.
 #![tactic(auto)]
 
-mod census;
+pub mod census;
 mod class;
 mod ending;
 mod fault;
@@ -9,9 +9,10 @@ pub mod laws;
 mod reporting;
 mod squeeze;
 mod texts;
-mod walk;
+pub mod walk;
 
 pub use class::{Class, class_of};
 pub use ending::end_of;
 pub use fault::{ReportFault, Totals};
 pub use reporting::{report, write_report};
+pub use texts::write_totals;

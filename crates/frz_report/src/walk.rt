@@ -7,9 +7,9 @@ ghost use Rattle.frz_sets.specs.Sets.{size_of};
 ghost use Rattle.frz_sets.specs.Sound.{IsSound};
 ghost use Rattle.frz_store.specs.Told.{sink_of};
 ghost use Rattle.frz_answer.specs.Texts.{WroteText};
-ghost use Rattle.frz_report.specs.Exits.{exits_at, exits_below, exits_of};
+ghost use Rattle.frz_report.specs.Exits.{exits_below, exits_of, positions_below, positions_of};
 ghost use Rattle.frz_report.specs.Squeezes.{squeeze_at, squeeze_on, squeezes};
-ghost use Rattle.frz_report.specs.Walks.{Counts, WritesSome, line_of, lines_below, one_of};
+ghost use Rattle.frz_report.specs.Walks.{Counts, KeepsFirsts, WritesSome, line_of, lines_below, one_of};
 
 use crate::census::Census;
 use crate::fault::ReportFault;
@@ -70,11 +70,16 @@ fn count_exits<B: ExitBook, L: Ledger>(
         (exits_below game.now.rules.now (B.value_at game.now.book.now) number) }
     requires total { census.old.total
         ≡ length (exits_below game.now.rules.now (B.value_at game.now.book.now) number) }
+    requires firsts { KeepsFirsts census.old.classes.entries census.old.firsts.items
+        (positions_below game.now.rules.now (B.value_at game.now.book.now) number) }
     requires few { census.old.total ≤ MOST_MOVES * number }
     ensures counts { OnOk result (Counts census.new.classes.entries
         (exits_below game.now.rules.now (B.value_at game.now.book.now) (number + 1))) }
     ensures total { OnOk result (census.new.total
         ≡ length (exits_below game.now.rules.now (B.value_at game.now.book.now) (number + 1))) }
+    ensures firsts { OnOk result
+        (KeepsFirsts census.new.classes.entries census.new.firsts.items
+        (positions_below game.now.rules.now (B.value_at game.now.book.now) (number + 1))) }
     ensures few { OnOk result (census.new.total ≤ MOST_MOVES * (number + 1)) }
     ensures step { steps.new ≤ steps.old + 1 }
     ensures later { steps.old ≤ steps.new }
@@ -101,6 +106,8 @@ fn look<B: ExitBook, E: Entries, O: Sink, L: Ledger>(
         (exits_below game.now.rules.now (B.value_at game.now.book.now) number) }
     requires total { census.old.total
         ≡ length (exits_below game.now.rules.now (B.value_at game.now.book.now) number) }
+    requires firsts { KeepsFirsts census.old.classes.entries census.old.firsts.items
+        (positions_below game.now.rules.now (B.value_at game.now.book.now) number) }
     requires few { census.old.total ≤ MOST_MOVES * number }
     ensures wrote { WritesSome result
         (line_of (squeeze_at game.now.rules.now.groups (E.codes entries.now) number))
@@ -111,6 +118,9 @@ fn look<B: ExitBook, E: Entries, O: Sink, L: Ledger>(
         (exits_below game.now.rules.now (B.value_at game.now.book.now) (number + 1))) }
     ensures total { OnOk result (census.new.total
         ≡ length (exits_below game.now.rules.now (B.value_at game.now.book.now) (number + 1))) }
+    ensures firsts { OnOk result
+        (KeepsFirsts census.new.classes.entries census.new.firsts.items
+        (positions_below game.now.rules.now (B.value_at game.now.book.now) (number + 1))) }
     ensures few { OnOk result (census.new.total ≤ MOST_MOVES * (number + 1)) }
     ensures step { steps.new ≤ steps.old + 1 }
     ensures later { steps.old ≤ steps.new }
@@ -135,6 +145,7 @@ pub fn walk<B: ExitBook, E: Entries, O: Sink, L: Ledger>(
     requires sound { IsSound game.now.rules.now }
     requires many { length (E.codes entries.now White) ≡ size_of game.now.rules.now.groups }
     requires none { Counts census.old.classes.entries [] }
+    requires firsts { KeepsFirsts census.old.classes.entries census.old.firsts.items [] }
     requires total { census.old.total ≡ 0 }
     ensures wrote { WritesSome result
         (lines_below game.now.rules.now (E.codes entries.now) (size_of game.now.rules.now.groups))
@@ -145,6 +156,8 @@ pub fn walk<B: ExitBook, E: Entries, O: Sink, L: Ledger>(
         (exits_of game.now.rules.now (B.value_at game.now.book.now))) }
     ensures total { OnOk result (census.new.total
         ≡ length (exits_of game.now.rules.now (B.value_at game.now.book.now))) }
+    ensures firsts { OnOk result (KeepsFirsts census.new.classes.entries census.new.firsts.items
+        (positions_of game.now.rules.now (B.value_at game.now.book.now))) }
     ensures steps { steps.new ≤ steps.old + size_of game.now.rules.now.groups }
     ensures later { steps.old ≤ steps.new }
 {

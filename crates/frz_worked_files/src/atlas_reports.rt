@@ -1,4 +1,5 @@
-//! Reports of a pawn's table over tables of what it leaves behind, all made by hand.
+//! Reports of a pawn's table over tables of what it leaves behind, all made by hand. The king on a1
+//! moves to b1 first, and the most frequent class stands first.
 ghost use Rattle.std.specs.Prelude.{◌≡◌, ◌<◌};
 
 use crate::stores::Row;
@@ -93,7 +94,7 @@ fn report(
 /// A report over a store whose calls fail so answers what the row says.
 fn check_report(rt: &impl Abort, alloc: Global, row: &Row, fails: &[Failing]) -> Result<(), Fail> {
     let mut store = filled(alloc, fails)?;
-    let mut out = empty_sink(alloc, 300)?;
+    let mut out = empty_sink(alloc, 400)?;
     row.check(rt, report(alloc, row.0, &mut store, &mut out)?, &out);
     Ok(())
 }
@@ -104,21 +105,34 @@ const ROWS: &[Row] = &[
         &["pawn", "won", "kings"],
         End::Done(Status::Success),
         b"squeeze 0 2 8/6kP/8/8/8/8/8/K7 w - - 0 1\n\
-            exits 12 KPk\nexits 1 KRk\nexits 1 KBk\nexits 1 KNk\nsqueezes 1 unassigned 15\n",
+            exits 12 KPk 8/6kP/8/8/8/8/8/1K6 b - - 0 1\n\
+            exits 1 KRk 7R/6k1/8/8/8/8/8/K7 b - - 0 1\n\
+            exits 1 KBk 7B/6k1/8/8/8/8/8/K7 b - - 0 1\n\
+            exits 1 KNk 7N/6k1/8/8/8/8/8/K7 b - - 0 1\n\
+            squeezes 1 unassigned 15\n",
     ),
     // The first table whose set holds the position counts, though it tells nothing.
     Row(
         &["pawn", "untold", "won"],
         End::Done(Status::Success),
         b"squeeze 0 2 8/6kP/8/8/8/8/8/K7 w - - 0 1\n\
-            exits 12 KPk\nexits 1 KQk\nexits 1 KRk\nexits 1 KBk\nexits 1 KNk\nexits 2 Kk\n\
+            exits 12 KPk 8/6kP/8/8/8/8/8/1K6 b - - 0 1\n\
+            exits 2 Kk 8/7k/8/8/8/8/8/K7 w - - 0 1\n\
+            exits 1 KQk 7Q/6k1/8/8/8/8/8/K7 b - - 0 1\n\
+            exits 1 KRk 7R/6k1/8/8/8/8/8/K7 b - - 0 1\n\
+            exits 1 KBk 7B/6k1/8/8/8/8/8/K7 b - - 0 1\n\
+            exits 1 KNk 7N/6k1/8/8/8/8/8/K7 b - - 0 1\n\
             squeezes 1 unassigned 18\n",
     ),
     Row(
         &["pawn", "won", "untold"],
         End::Done(Status::Success),
         b"squeeze 0 2 8/6kP/8/8/8/8/8/K7 w - - 0 1\n\
-            exits 12 KPk\nexits 1 KRk\nexits 1 KBk\nexits 1 KNk\nexits 2 Kk\n\
+            exits 12 KPk 8/6kP/8/8/8/8/8/1K6 b - - 0 1\n\
+            exits 2 Kk 8/7k/8/8/8/8/8/K7 w - - 0 1\n\
+            exits 1 KRk 7R/6k1/8/8/8/8/8/K7 b - - 0 1\n\
+            exits 1 KBk 7B/6k1/8/8/8/8/8/K7 b - - 0 1\n\
+            exits 1 KNk 7N/6k1/8/8/8/8/8/K7 b - - 0 1\n\
             squeezes 1 unassigned 17\n",
     ),
     // A plain table goes by its exit lines alone, whatever stands behind it.
@@ -126,14 +140,24 @@ const ROWS: &[Row] = &[
         &["plain"],
         End::Done(Status::Success),
         b"squeeze 0 2 8/6kP/8/8/8/8/8/K7 w - - 0 1\n\
-            exits 12 KPk\nexits 1 KQk\nexits 1 KRk\nexits 1 KBk\nexits 1 KNk\nexits 2 Kk\n\
+            exits 12 KPk 8/6kP/8/8/8/8/8/1K6 b - - 0 1\n\
+            exits 2 Kk 8/7k/8/8/8/8/8/K7 w - - 0 1\n\
+            exits 1 KQk 7Q/6k1/8/8/8/8/8/K7 b - - 0 1\n\
+            exits 1 KRk 7R/6k1/8/8/8/8/8/K7 b - - 0 1\n\
+            exits 1 KBk 7B/6k1/8/8/8/8/8/K7 b - - 0 1\n\
+            exits 1 KNk 7N/6k1/8/8/8/8/8/K7 b - - 0 1\n\
             squeezes 1 unassigned 18\n",
     ),
     Row(
         &["plain", "won"],
         End::Done(Status::Success),
         b"squeeze 0 2 8/6kP/8/8/8/8/8/K7 w - - 0 1\n\
-            exits 12 KPk\nexits 1 KQk\nexits 1 KRk\nexits 1 KBk\nexits 1 KNk\nexits 2 Kk\n\
+            exits 12 KPk 8/6kP/8/8/8/8/8/1K6 b - - 0 1\n\
+            exits 2 Kk 8/7k/8/8/8/8/8/K7 w - - 0 1\n\
+            exits 1 KQk 7Q/6k1/8/8/8/8/8/K7 b - - 0 1\n\
+            exits 1 KRk 7R/6k1/8/8/8/8/8/K7 b - - 0 1\n\
+            exits 1 KBk 7B/6k1/8/8/8/8/8/K7 b - - 0 1\n\
+            exits 1 KNk 7N/6k1/8/8/8/8/8/K7 b - - 0 1\n\
             squeezes 1 unassigned 18\n",
     ),
     Row(&[], End::Done(Status::Words), b"words: count\n"),

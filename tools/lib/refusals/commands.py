@@ -6,8 +6,8 @@ from lib.refusals import faults
 from lib.refusals.case import Case
 from lib.refusals.faults import Same, Stage
 from lib.refusals.fixtures import (
-    A, A_BLACK, A_FILE, A_WHITE, BOUNDS, CHAINED_FILE, H, H_BLACK, H_FILE, H_WHITE, IN_A, IN_H,
-    LINE_IN_A, LINE_IN_H, OPEN_IN_A, OPEN_IN_H, OVER_WHITE, PREMISES_OF_H, REPORT_OF_A, REPORT_OF_H, SAID_IN_A,
+    A, A_BLACK, A_FILE, A_WHITE, BOUNDS, CHAINED_FILE, FIRSTS_OF_H, H, H_BLACK, H_FILE, H_WHITE, IN_A, IN_H,
+    LINE_IN_A, LINE_IN_H, OPEN_IN_A, OPEN_IN_H, OVER_WHITE, PREMISES_OF_H, REPORT_OF_A, SAID_IN_A,
     SAID_IN_H, SAID_TO_ASK, SESSION_IN_A, SESSION_IN_H, SIZE_OF_A, TOLD_BY_ASK, VERDICT_OF_H, altered, files_of, table,
 )
 from lib.tables import CHAINED, LEANING
@@ -117,11 +117,11 @@ def atlas():
         {"RULES": "H", **BACKS}, PREMISES_OF_H, count(1, 1), same_of("RULES"), faults.rules(), *behind(True)
     )
     yield "report", command(
-        {"TABLE": "H.t", **BACKS}, REPORT_OF_H, count(1, 1), twice, faults.either(), *behind(False)
+        {"TABLE": "H.t", **BACKS}, FIRSTS_OF_H, count(1, 1), twice, faults.either(), *behind(False)
     )
     yield "each", command(
-        {"TABLE": "H.t", "FEN": IN_H}, "Kb8 white wins within 1, black none\n", faults.count(2, 2), fen,
-        faults.either(), place,
+        {"TABLE": "H.t", "FEN": IN_H, **BACKS}, "Kb8 white wins within 1, black none\n", count(2, 2), twice, fen,
+        faults.either(), *behind(False), place,
     )
     yield "ask", command(
         {"TABLE": "H.t", **BACKS}, TOLD_BY_ASK, count(1, 1), twice, faults.either(), *behind(False), given=SAID_TO_ASK

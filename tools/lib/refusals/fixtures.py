@@ -71,9 +71,14 @@ VERDICT_OF_H = f"{IN_H}\nwhite wins\nback 1 {N_BELIEVED}believed 1\n"
 SIZE_OF_A = "turns 2\ngroup 1 1\ngroup 2 2\ngroup 3 2\nnumbers 8\ndisk 153\nmemory 128\n"
 # 6 king's and 13 rook's moves from 0, 5 and 13 from 1, and Kc8 from 5.
 REPORT_OF_A = "exits 38 KRk\nsqueezes 0 unassigned 38\n"
+# The first of them is Ra1 from 0, and `atlas` names the position behind it.
+BEHIND_RA1 = "k7/8/1K6/8/8/8/8/R7 b - - 0 1"
+FIRSTS_OF_A = f"exits 38 KRk {BEHIND_RA1}\nsqueezes 0 unassigned 38\n"
+# Over N, which tells of Kc8.
+FIRSTS_OF_L = f"exits 37 KRk {BEHIND_RA1}\nsqueezes 0 unassigned 37\n"
 # From 0 and 1 the rook has 2 moves into A; 18 and 17 are left, and Kc8 from 3.
 # Ra2 from 0 is the first of them, since Rh1 leads into A.
-REPORT_OF_H = "exits 36 KRk\nsqueezes 0 unassigned 36\n"
+FIRSTS_OF_H = "exits 36 KRk k7/8/1K6/8/8/8/R7/8 b - - 0 1\nsqueezes 0 unassigned 36\n"
 # What `ask` answers by H over N and A: of H, of the second and of the first behind it, of none, and no position.
 ASKED_IN_H = (
     (IN_H, "white wins within 2, black fails within 2"), (OPEN_IN_A, "back 2 white wins within 2, black fails within 2"),

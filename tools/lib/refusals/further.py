@@ -94,7 +94,8 @@ def closed_files():
         ("atlas", ("build", "A", "new", "N.t", "nowhere"), "N.t"), ("atlas", ("build", "A", "new", "N.t"), "."),
         ("atlas", ("build", "A", "L.t", "N.t"), "L.t"), ("atlas", ("check", "L.t", "nowhere"), "L.t"),
         ("atlas", ("check", "L.t", "N.t"), "N.t"), ("atlas", ("query", "L.t", IN_A), "L.t"),
-        ("atlas", ("each", "L.t", IN_A), "L.t"), ("atlas", ("report", "L.t", "N.t"), "N.t"),
+        ("atlas", ("each", "L.t", IN_A), "L.t"), ("atlas", ("each", "L.t", IN_A, "N.t"), "N.t"),
+        ("atlas", ("report", "L.t", "N.t"), "N.t"),
         ("atlas", ("line", "L.t", IN_A, "white", "N.t"), "N.t"), ("atlas", ("why", "L.t", IN_A, "white"), "L.t"),
         ("atlas", ("play", "L.t", IN_A, "white", "N.t"), "N.t"), ("atlas", ("premises", "A", "N.t"), "N.t"),
     ):

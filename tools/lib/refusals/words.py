@@ -4,8 +4,8 @@ from lib.refusals.case import Case
 from lib.refusals.commands import MOST_BACKS, both, call
 from lib.refusals.faults import Fault
 from lib.refusals.fixtures import (
-    A_FILE, BOUNDS, CHAINED_FILE, FILES, IN_A, LINE_IN_A, L_FILE, MATE_IN_ONE, N_BELIEVED, N_FILE, OPEN_IN_A,
-    REPORT_OF_A, SAID_IN_A, SESSION_IN_A, files_of,
+    A_FILE, BOUNDS, CHAINED_FILE, FILES, FIRSTS_OF_A, FIRSTS_OF_L, IN_A, LINE_IN_A, L_FILE, MATE_IN_ONE, N_BELIEVED,
+    N_FILE, OPEN_IN_A, SAID_IN_A, SESSION_IN_A, files_of,
 )
 
 FREEZER = ("moves", "sans", "move", "solve", "build", "check", "query", "chain", "chaincheck", "chainquery", "line",
@@ -17,6 +17,7 @@ NO_COMMAND = (
 )
 SAME, WINS = "words: same name\n", "white wins within 2\n"
 # At 5 in A over N, whose wins have no plies.
+EACH_IN_L = "Ka8 white wins within 1, black none\nKc8 back 1 white wins within 1, black none\n"
 ASKED_IN_L = "white wins within 2, black fails within 2\ninput ended\n"
 NO_TEXT = b"\xff"
 NO_TEXTS = (b"\xff", b"a\x80", b"\xc3", b"\xed\xa0\x80", b"white\xfe")
@@ -91,6 +92,8 @@ def names_of_atlas():
         (("premises", "nowhere", "nowhere"), 2, SAME), (("build", "A", "A", "N.t"), 2, SAME),
         (("build", "A", "A"), 2, SAME), (("ask", "A.t", "A.t"), 2, SAME),
         (("ask", "L.t", "N.t", "8", "N.t"), 2, SAME), (("verdict", "L.t", "x", "N.t", "N.t"), 2, SAME),
+        (("each", "L.t", "x", "N.t", "N.t"), 2, SAME), (("each", "L.t", "x", "L.t"), 2, SAME),
+        (("each", "white", "8", "8"), 4, "fen: fields\n"),
         (("build", "A", "N.t", "A"), 2, SAME), (("build", "A", "N.t", "N.t"), 2, SAME),
         (("build", "A", "new", "N.t", "L.t", "8", "L.t"), 2, SAME), (("check", "L.t", "L.t"), 2, SAME),
         (("check", "L.t", "N.t", "8", "N.t"), 2, SAME), (("report", "", ""), 2, SAME),
@@ -117,7 +120,7 @@ def many_backs():
             (("why", "L.t", IN_A, "white"), WINS, b"", {}),
             (("verdict", "L.t", IN_A), f"{IN_A}\nwhite wins\n{named}believed {count}\n", b"", {}),
             (("premises", "A"), believed, b"", {}),
-            (("report", "L.t"), "exits 37 KRk\nsqueezes 0 unassigned 37\n", b"", {}),
+            (("report", "L.t"), FIRSTS_OF_L, b"", {}), (("each", "L.t", OPEN_IN_A), EACH_IN_L, b"", {}),
             (("ask", "L.t"), ASKED_IN_L, OPEN_IN_A.encode(), {}),
         ):
             status, answer = (0, text) if count <= MOST_BACKS else (2, "words: count\n")
@@ -136,7 +139,7 @@ def without_backs():
         (("build", "A", "new"), "built 8\n", b"", {"new": A_FILE}), (("check", "A.t"), "exact 8\n", b"", {}),
         (("query", "A.t", IN_A), BOUNDS, b"", {}), (("query", "L.t", IN_A), BOUNDS, b"", {}),
         (("line", "A.t", IN_A, "white"), LINE_IN_A, b"", {}),
-        (("play", "A.t", IN_A, "white"), SESSION_IN_A, SAID_IN_A, {}), (("report", "A.t"), REPORT_OF_A, b"", {}),
+        (("play", "A.t", IN_A, "white"), SESSION_IN_A, SAID_IN_A, {}), (("report", "A.t"), FIRSTS_OF_A, b"", {}),
         (("each", "A.t", OPEN_IN_A), "Kc8 exit unknown\nKa8 white wins within 1, black none\n", b"", {}),
         (("ask", "A.t", "N.t"), "white wins within 1, black fails within 1\noutside\ninput ended\n",
          f"{MATE_IN_ONE}\n2k5/8/1K6/8/8/8/8/7R w - - 0 1\n".encode(), {}),

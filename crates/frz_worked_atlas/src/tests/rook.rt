@@ -144,6 +144,22 @@ const ASKED: &[Said] = &[
         0,
         "white wins within 2\na8b8\nh1h8\nmate\n",
     ),
+    // Either king's move loses: one stays in the set, and the other leads into that of N.t.
+    Said(
+        &["each", "over.t", rook::NEXT_TO_IT, "N.t"],
+        0,
+        "Ka8 white wins within 1, black none\nKc8 back 1 white wins within 1, black none\n",
+    ),
+    Said(
+        &["each", "over.t", rook::NEXT_TO_IT],
+        0,
+        "Kc8 exit unknown\nKa8 white wins within 1, black none\n",
+    ),
+    Said(
+        &["each", "over.t", rook::NEXT_TO_IT, "A.t", "none.t"],
+        12,
+        "missing back 2\n",
+    ),
     Said(&["query", "over.t", rook::OUTSIDE], 7, "outside\n"),
     Said(
         &["query", "none.t", rook::NEXT_TO_IT],

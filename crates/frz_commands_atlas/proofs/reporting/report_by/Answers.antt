@@ -7,6 +7,6 @@ returns-clause-wrote g c =
     let given = c.args.table.now in
     moved_report c.rules.result.now given.table.rules (g.B.ExitBook.value_at c.args.book.now)
     given.white.items given.black.items c.deref.result.now c.deref-2.result.now
-    c.write_report.result (sink_of g.O.Sink c.args.out.now)
-    (sink_of g.O.Sink c.write_report.new.out) c.rules.ensures.rules c.deref.ensures.value
-    c.deref-2.ensures.value c.write_report.ensures.wrote
+    c.write_first_report.result (sink_of g.O.Sink c.args.out.now)
+    (sink_of g.O.Sink c.write_first_report.new.out) c.rules.ensures.rules c.deref.ensures.value
+    c.deref-2.ensures.value c.write_first_report.ensures.wrote

@@ -2,7 +2,7 @@ use Rattle.std.specs.Prelude.{map}
 use Rattle.std.specs.String.{string_bytes}
 use Rattle.frz_store.specs.Told.{store_of}
 use Rattle.frz_commands_verdict.specs.Verdicting.{verdict_named}
-use Rattle.frz_commands_verdict.proofs.WordsGiven.{ran_given, ran_ungiven}
+use Rattle.frz_atlas_prelude.proofs.Lemmas.{ran_given, ran_ungiven}
 use Rattle.frz_commands_verdict.proofs.command.run_verdict.Goals as goal
 
 pub returns-in-Ok-clause-ran : goal.returns-in-Ok-clause-ran

@@ -41,7 +41,7 @@ pub returns-in_err-squeezes-clause-wrote : goal.returns-in_err-squeezes-clause-w
 returns-in_err-squeezes-clause-wrote g c =
     let p = err_from_is_err_and c.from_residual.result c.from_residual.ensures.1 in
     rw (p.1, p.2)
-    (stopped_early _ _ _ c.in_err-squeezes.field-0.0
+    (stopped_early _ _ _ _ c.in_err-squeezes.field-0.0
     (length (squeezes c.args.game.now.rules.now.groups (g.E.Entries.codes c.args.entries.now)))
     _ _ c.in_err-squeezes.ensures.wrote)
 
@@ -50,7 +50,7 @@ returns-in_err-write_classes-clause-wrote g c =
     let p = err_from_is_err_and c.from_residual-in_err-write_classes.result
     c.from_residual-in_err-write_classes.ensures.1 in
     rw (p.1, p.2)
-    (classes_failed _ _ _ _ _ c.in_ok-squeezes.ensures.wrote.1 _
+    (classes_failed _ _ _ _ _ _ c.in_ok-squeezes.ensures.wrote.1 _
     (subst (λ (l : List (List ℕ × ℕ)). FailedWithin (flat_map class_line l)
     (sink_of g.O.Sink c.walk.new.out) (sink_of g.O.Sink c.write_classes.new.out))
     c.in_ok-squeezes.ensures.counts c.in_err-write_classes.ensures.failed))
@@ -61,7 +61,7 @@ returns-in_err-write_totals-clause-wrote g c =
     let p = err_from_is_err_and c.from_residual-in_err-write_totals.result
     c.from_residual-in_err-write_totals.ensures.1 in
     rw (p.1, p.2)
-    (last_failed _ _ _ _ _ c.in_ok-squeezes.ensures.wrote.1 _ (took g here) _
+    (last_failed _ _ _ _ _ _ c.in_ok-squeezes.ensures.wrote.1 _ (took g here) _
     (subst (λ (t : Totals). FailedWithin (last_line t.squeezes t.unassigned)
     (sink_of g.O.Sink c.write_classes.new.out) (sink_of g.O.Sink c.write_totals.new.out))
     (totals g here) c.in_err-write_totals.ensures.failed))
@@ -69,7 +69,7 @@ returns-in_err-write_totals-clause-wrote g c =
 pub returns-clause-wrote : goal.returns-clause-wrote
 returns-clause-wrote g c =
     let here = (goal.at.returns-clause-wrote g c).After-write_totals in
-    all_written _ _ _ _ _ c.in_ok-squeezes.ensures.wrote.1 _ (took g here) _ _ (totals g here)
+    all_written _ _ _ _ _ _ c.in_ok-squeezes.ensures.wrote.1 _ (took g here) _ _ (totals g here)
     (subst (λ (t : Totals). TookText (last_line t.squeezes t.unassigned)
     (sink_of g.O.Sink c.write_classes.new.out) (sink_of g.O.Sink c.write_totals.new.out))
     (totals g here) c.in_ok-write_totals.ensures.ok)

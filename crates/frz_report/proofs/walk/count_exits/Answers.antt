@@ -7,7 +7,7 @@ use Rattle.frz_game.specs.Games.{graph_by}
 use Rattle.frz_index.proofs.Lemmas.{position_tells}
 use Rattle.frz_report.specs.Exits.{classes_after, exits_below}
 use Rattle.frz_report.specs.Walks.{Counts}
-use Rattle.frz_report.proofs.Looking.{counted_more, few_with_one_more, total_more, weaker_holds_on_ok}
+use Rattle.frz_report.proofs.Looking.{counted_more, firsts_more, few_with_one_more, total_more, weaker_holds_on_ok}
 use Rattle.frz_report.proofs.Walking.{arms_legal}
 use Rattle.frz_report.proofs.walk.count_exits.Goals as goal
 
@@ -48,6 +48,19 @@ returns-clause-counts g c =
     counted_more rules value c.args.number c.args.p.now c.as_slice.result.now c.requires.position
     are c.args.census.now.classes.entries c.note_all.new.self.classes.entries h c.requires.counts)
     c.note_all.ensures.counts
+
+pub returns-clause-firsts : goal.returns-clause-firsts
+returns-clause-firsts g c =
+    let rules = c.args.game.now.rules.now in
+    let value = g.B.ExitBook.value_at c.args.game.now.book.now in
+    let are : c.as_slice.result.now ≡ (graph_by rules value).arms c.args.number =
+    c.as_slice.ensures.value ∙ c.nexts_by.ensures.arms in
+    weaker_holds_on_ok _ _ c.note_all.result
+    (λ h. firsts_more rules value c.args.number c.args.p.now c.as_slice.result.now
+    c.requires.position are c.args.census.now.classes.entries
+    c.note_all.new.self.classes.entries c.args.census.now.firsts.items
+    c.note_all.new.self.firsts.items h c.requires.firsts)
+    c.note_all.ensures.firsts
 
 pub returns-clause-total : goal.returns-clause-total
 returns-clause-total g c =

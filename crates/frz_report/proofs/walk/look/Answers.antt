@@ -4,7 +4,7 @@ use Rattle.frz_board.specs.Boards.{Board}
 use Rattle.frz_index.specs.Members.{HasNumber}
 use Rattle.frz_index.specs.Membership.{position_at}
 use Rattle.frz_store.specs.Told.{sink_of}
-use Rattle.frz_report.proofs.Looking.{counts_same, failed_here, nothing_here, position_here, total_same, wanted_here, written_here}
+use Rattle.frz_report.proofs.Looking.{counts_same, failed_here, firsts_same, nothing_here, position_here, total_same, wanted_here, written_here}
 use Rattle.frz_report.proofs.walk.look.Given.{Over}
 use Rattle.frz_report.proofs.walk.look.Goals as goal
 use Rattle.frz_report.proofs.walk.look.Goals.{In_default, In-Some}
@@ -34,6 +34,12 @@ returns-in_default-clause-counts g c =
     counts_same c.args.game.now.rules.now (g.B.ExitBook.value_at c.args.game.now.book.now)
     c.args.number (none g (goal.at.returns-in_default-clause-counts g c).In_default)
     c.args.census.now.classes.entries c.requires.counts
+
+pub returns-in_default-clause-firsts : goal.returns-in_default-clause-firsts
+returns-in_default-clause-firsts g c =
+    firsts_same c.args.game.now.rules.now (g.B.ExitBook.value_at c.args.game.now.book.now)
+    c.args.number (none g (goal.at.returns-in_default-clause-firsts g c).In_default)
+    c.args.census.now.classes.entries c.args.census.now.firsts.items c.requires.firsts
 
 pub returns-in_default-clause-total : goal.returns-in_default-clause-total
 returns-in_default-clause-total g c =

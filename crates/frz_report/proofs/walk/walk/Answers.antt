@@ -3,9 +3,9 @@ use Rattle.frz_sets.specs.Sets.{size_of}
 use Rattle.frz_store.specs.Told.{sink_of}
 use Rattle.frz_answer.specs.Texts.{TookText}
 use Rattle.frz_answer.proofs.Lemmas.{took_nothing}
-use Rattle.frz_report.specs.Exits.{exits_below}
+use Rattle.frz_report.specs.Exits.{exits_below, positions_below}
 use Rattle.frz_report.specs.Squeezes.{squeeze_at, squeezes, squeezes_below}
-use Rattle.frz_report.specs.Walks.{Counts, WritesSome, lines_below, one_of}
+use Rattle.frz_report.specs.Walks.{Counts, KeepsFirsts, WritesSome, lines_below, one_of}
 use Rattle.frz_report.proofs.Looking.{holds_of_known_fault}
 use Rattle.frz_report.proofs.Walking.{many_more, one_at_most, stopped_more, took_more}
 use Rattle.frz_report.proofs.walk.walk.Goals as goal
@@ -16,6 +16,7 @@ loop-number-init g c = record {
   squeezes = refl;
   few_squeezes = omega arith;
   counts = c.requires.none;
+  firsts = c.requires.firsts;
   total = c.requires.total;
   few = (let none = c.requires.total in omega arith);
   steps = omega arith;
@@ -44,6 +45,7 @@ loop-number-preserved g c =
           ∙ sym (many_more rules codes n);
       few_squeezes = omega (arith, i.few_squeezes);
       counts = e.counts;
+      firsts = e.firsts;
       total = e.total;
       few = e.few;
       steps = omega (arith, i.steps, e.step);
@@ -90,6 +92,17 @@ returns-clause-counts g c =
     let end : c.loop-number.number ≡ size_of rules.groups = omega arith in
     subst (λ (k : ℕ). Counts c.loop-number.census.classes.entries (exits_below rules value k)) end
     c.loop-number.invariant.counts
+
+pub returns-clause-firsts : goal.returns-clause-firsts
+returns-clause-firsts g c =
+    let rules = c.args.game.now.rules.now in
+    let value = g.B.ExitBook.value_at c.args.game.now.book.now in
+    let size_is : c.size-number-end.result ≡ size_of rules.groups = c.size-number-end.ensures.size
+    ∙ ap size_of c.args.game.now.fits in
+    let end : c.loop-number.number ≡ size_of rules.groups = omega arith in
+    subst (λ (k : ℕ). KeepsFirsts c.loop-number.census.classes.entries
+    c.loop-number.census.firsts.items (positions_below rules value k)) end
+    c.loop-number.invariant.firsts
 
 pub returns-clause-total : goal.returns-clause-total
 returns-clause-total g c =

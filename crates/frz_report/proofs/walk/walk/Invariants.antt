@@ -1,9 +1,9 @@
 use Rattle.std.proofs.Common.{◌≡◌, ◌≤◌, ◌+◌, ◌*◌, length}
 use Rattle.frz_store.specs.Told.{sink_of}
 use Rattle.frz_answer.specs.Texts.{TookText}
-use Rattle.frz_report.specs.Exits.{exits_below}
+use Rattle.frz_report.specs.Exits.{exits_below, positions_below}
 use Rattle.frz_report.specs.Squeezes.{squeezes_below}
-use Rattle.frz_report.specs.Walks.{Counts, lines_below}
+use Rattle.frz_report.specs.Walks.{Counts, KeepsFirsts, lines_below}
 use Rattle.frz_report.proofs.walk.walk.Given as goal
 
 abbrev pub invariant-loop-number : goal.invariant-loop-number
@@ -17,6 +17,8 @@ invariant-loop-number g l = record {
       (exits_below l.game.rules.now (g.B.ExitBook.value_at l.game.book.now) l.number);
   total : l.census.total ≡ length
       (exits_below l.game.rules.now (g.B.ExitBook.value_at l.game.book.now) l.number);
+  firsts : KeepsFirsts l.census.classes.entries l.census.firsts.items
+      (positions_below l.game.rules.now (g.B.ExitBook.value_at l.game.book.now) l.number);
   few : l.census.total ≤ 1024 * l.number;
   steps : l.steps ≤ l.fn.steps + l.number;
   later : l.fn.steps ≤ l.steps;

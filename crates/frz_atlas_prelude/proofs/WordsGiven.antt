@@ -10,7 +10,7 @@ use Rattle.frz_answer.specs.Lawful.{IsLawful}
 use Rattle.frz_answer.specs.Words.{refusing, unless}
 use Rattle.frz_answer.specs.World.{World}
 use Rattle.frz_answer.proofs.Lemmas.{taking_lawful, unless_lawful}
-use Rattle.frz_commands_verdict.specs.Words.{AreGiven, AreNotGiven, GivenNames, given_names_of, given_words, is_same_file, not_so_many, same}
+use Rattle.frz_atlas_prelude.specs.Given.{AreGiven, AreNotGiven, GivenNames, given_names_of, given_words, is_same_file, not_so_many, same}
 
 module _ (job : GivenNames → Job) where
   module _ (words : List (List ℕ)) (end : End) (old new : World) where

@@ -2,12 +2,11 @@
 ghost use Rattle.std.specs.Prelude.{◌≡◌, ◌≤◌, ◌∷◌, length, map, false, IfOk, IfErr, IfSome};
 ghost use Rattle.std.specs.Option.{option_map};
 ghost use Rattle.std.specs.String.{string_bytes};
-ghost use Rattle.frz_atlas_prelude.specs.Names.{has_twice as is_twice};
-ghost use Rattle.frz_atlas_prelude.specs.declared.names.TheConstants.{MOST_BACKS};
-ghost use Rattle.frz_commands_verdict.specs.Words.{AreGiven, AreNotGiven, given_names_of};
+ghost use Rattle.frz_atlas_prelude.specs.Given.{AreGiven, AreNotGiven, given_names_of};
+ghost use Rattle.frz_atlas_prelude.specs.Names as names;
 
+use crate::names::{MOST_BACKS, has_twice, is_among};
 use frz_answer::Refusal;
-use frz_atlas_prelude::{MOST_BACKS, has_twice, is_among};
 
 /// The words TABLE, FEN and BACK ..
 #[derive(Clone, Copy)]
@@ -38,7 +37,7 @@ fn given_names(words: &[String]) -> Option<Given<'_>>
 
 /// Has one of the tables a name that stands twice?
 fn is_same_file(given: &Given<'_>) -> bool
-    ensures { result ≡ is_twice (given.now.table.now ∷ map string_bytes given.now.behind.now) }
+    ensures { result ≡ names.has_twice (given.now.table.now ∷ map string_bytes given.now.behind.now) }
 {
     is_among(given.table, given.behind) || has_twice(given.behind)
 }
@@ -51,7 +50,7 @@ pub fn names_given(words: &[String]) -> Result<Given<'_>, Refusal>
       fen = given.fen.now;
       behind = map string_bytes given.behind.now;
     })) }
-    ensures apart { IfOk result (λ given. is_twice (given.table.now
+    ensures apart { IfOk result (λ given. names.has_twice (given.table.now
         ∷ map string_bytes given.behind.now) ≡ false) }
     ensures few { IfOk result (λ given. length (map string_bytes given.behind.now) ≤ MOST_BACKS) }
     ensures refused { IfErr result (AreNotGiven (map string_bytes words.now)) }

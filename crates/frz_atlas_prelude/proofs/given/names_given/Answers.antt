@@ -1,6 +1,6 @@
 use Rattle.std.proofs.Common.{sym, ◌∙◌}
-use Rattle.frz_commands_verdict.specs.Words.{not_so_many, same}
-use Rattle.frz_commands_verdict.proofs.names.names_given.Goals as goal
+use Rattle.frz_atlas_prelude.specs.Given.{not_so_many, same}
+use Rattle.frz_atlas_prelude.proofs.given.names_given.Goals as goal
 
 pub returns-in-None-clause-refused : goal.returns-in-None-clause-refused
 returns-in-None-clause-refused c = not_so_many (sym c.in-None.ensures.named)
