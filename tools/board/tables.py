@@ -72,7 +72,7 @@ class Tables:
         where no command tells it."""
         head, backs = self.heads[place], [back.path for back in self.leant_on(place)]
         if head.kind == PLAIN:
-            return ("freezer" if command == "line" else "atlas", command, head.path, fen, side)
+            return ("atlas", command, head.path, fen, side)
         if head.kind == LEANING and 0 < len(backs) <= MOST_BEHIND:
             return ("atlas", command, head.path, fen, side, *backs)
         return None

@@ -78,13 +78,18 @@ def walk(game, side, codes, number, source=None):
     return way(game, side, codes, number, source)[:2]
 
 
-def way(game, side, codes, number, source):
-    """Status, text, and the move by which the way leaves the set, if it does."""
+def way(game, side, codes, number, source, seen=None):
+    """Status, text, and the move by which the way leaves the set, if it does. With a set of numbers it ends
+    where it comes to one of them again."""
     text, refused = begin_or_refuse(game, side, codes, number)
     if refused is not None:
         return *refused, None
     plies = 0
     while True:
+        if seen is not None:
+            if number in seen:
+                return 0, text + "repetition\n", None
+            seen.add(number)
         if (wrong := wrong_at(game, side, codes, number)) is not None:
             return wrong[0], text + wrong[1], None
         if (last := end_at(game, number)) is not None:
@@ -107,14 +112,19 @@ def way(game, side, codes, number, source):
 
 def walk_over(table, backs, side, number, source=None):
     """Status and text of `line` or `play` of `atlas`, from a number of the first table. Each has its game and its
-    codes, and may lean on those before it."""
-    status, text, arm = way(table.game, side, table.codes[side], number, source)
+    codes, and may lean on those before it. A line by one table ends where a position comes again."""
+    status, text, arm = way(table.game, side, table.codes[side], number, source, noted(source))
     while arm is not None and (place := behind_at(table.game, arm.end)) is not None:
         table, position = backs[place], arm.end
         number = table.game.set.number(position)
-        status, more, arm = way(table.game, side, table.codes[side], number, source)
+        status, more, arm = way(table.game, side, table.codes[side], number, source, noted(source))
         text += f"back {place + 1}\n" + (named(more, place) if status == 6 else more)
     return status, text
+
+
+def noted(source):
+    """The numbers that a line has come to, before it begins; of a session none are noted."""
+    return set() if source is None else None
 
 
 def behind_at(game, position):

@@ -1,5 +1,5 @@
 -- Where a journey arrives, and that its text says something.
-use Rattle.std.proofs.Common.{◌≡◌, ◌++◌, refl, sym, subst, ◌∙◌, ℕ, List, [], ◌∷◌, Result, Ok, Err, append_assoc, append-nil}
+use Rattle.std.proofs.Common.{◌≡◌, ◌++◌, ◌==◌, refl, sym, subst, ◌∙◌, ℕ, Bool, true, false, List, [], ◌∷◌, Option, Some, None, Result, Ok, Err, append_assoc, append-nil, if◌then◌else◌, take}
 use Rattle.std.specs.Prelude.{codes}
 use Rattle.frz_board.specs.Boards.{Board}
 use Rattle.frz_board.specs.declared.man.Colour.{Colour}
@@ -12,18 +12,23 @@ use Rattle.frz_ways.specs.declared.end.LineFault.TheVariants as faults
 use Rattle.frz_ways.specs.declared.hearing.Why.{Why}
 use Rattle.frz_ways.specs.declared.hearing.Why.TheVariants.{Ended, Limit}
 use Rattle.frz_ways.specs.declared.opponent.Opponent.{Opponent}
+use Rattle.frz_ways.specs.declared.opponent.Opponent.TheVariants as opponents
 use Rattle.frz_ways.specs.declared.opponent.Player.{Player}
 use Rattle.frz_ways.specs.declared.session_end.PlayFault.{PlayFault}
 use Rattle.frz_ways.specs.declared.session_end.PlayFault.TheVariants as plays
 use Rattle.frz_ways.specs.declared.session_end.PlayLimit.{PlayLimit}
 use Rattle.frz_ways.specs.declared.session_end.PlayLimit.TheVariants.{Lines, LineLength}
 use Rattle.frz_ways.specs.declared.way_end.WayEnd.{WayEnd}
+use Rattle.frz_arena.specs.declared.arm.Next.TheVariants.{Inside}
+use Rattle.frz_bound_lines.specs.BoundLines.{kept_line}
+use Rattle.frz_ways.specs.Costs.{way_numbers}
 use Rattle.frz_ways.specs.Reading.{Input}
+use Rattle.frz_ways.specs.Shown.{first_again, held_text, shown_text}
 use Rattle.frz_ways.specs.SessionTexts.{end_text, refused_text, start_line, why_line}
 use Rattle.frz_ways.specs.Texts.{exit_line}
 use Rattle.frz_ways.specs.WayEnds.{told}
 use Rattle.frz_ways.specs.WayTexts.{plies_text, way_text}
-use Rattle.frz_ways.specs.Ways.{EndOfWay}
+use Rattle.frz_ways.specs.Ways.{EndOfWay, WayPly}
 use Rattle.frz_journeys.specs.declared.place.Place.{Place}
 use Rattle.frz_journeys.specs.declared.place.Place.TheVariants.{Own, Behind}
 use Rattle.frz_journeys.specs.Arrivals.{Arrives, StopsShort}
@@ -136,6 +141,42 @@ end_said side (Stopped halt) place (Ok last) e h =
     by_why Ended is none = cc
     by_why (Limit limit) is none = cc
 
+-- the text of a way says something, with the line of its end, and so does what is shown of it
+module _ (side : Colour) (plies : List WayPly) (end : EndOfWay) (place : Place)
+    (answer : Result WayEnd PlayFault) (ends : answer ≡ told side end) where
+  way_said : (opponent : Opponent) (code : ℕ)
+      → way_text opponent side code plies end ++ naming place answer ≡ [] → ⊥
+  way_said opponent code e =
+      let first = start_line side code plies end in
+      let moves = plies_text opponent side plies in
+      let last = end_text end in
+      let name = naming place answer in
+      let rest_said : (moves ++ last) ++ name ≡ [] =
+      no_right first ((moves ++ last) ++ name) (sym (append_assoc first (moves ++ last) name) ∙ e) in
+      end_said side end place answer ends
+      (no_right moves (last ++ name) (sym (append_assoc moves last name) ∙ rest_said))
+
+  held_said : (again : Option ℕ)
+      → held_text side plies end again ++ naming place answer ≡ [] → ⊥
+  held_said None e = way_said opponents.Codes 1 e
+  held_said (Some k) e =
+      let last = codes "repetition\n" in
+      let moves = plies_text opponents.Codes side (take k plies) in
+      let none = no_right moves last (no_right (kept_line side 1) (moves ++ last)
+      (no_left (kept_line side 1 ++ (moves ++ last)) (naming place answer) e)) in cc
+
+  line_said : (code : ℕ) (again : Option ℕ) (held : Bool)
+      → (if held then held_text side plies end again else way_text opponents.Codes side code plies end)
+      ++ naming place answer ≡ [] → ⊥
+  line_said code again true e = held_said again e
+  line_said code again false e = way_said opponents.Codes code e
+
+  shown_said : (opponent : Opponent) (code start : ℕ)
+      → shown_text opponent side code start plies end ++ naming place answer ≡ [] → ⊥
+  shown_said opponents.Input code start e = way_said opponents.Input code e
+  shown_said opponents.Codes code start e =
+      line_said code (first_again (way_numbers (Inside (0, start)) plies)) (code == 1) e
+
 -- the text of a journey says something
 pub journey_said : (player : Player) (stages : List Stage) (place : Place)
     (answer : Result WayEnd PlayFault) → Arrives player.side stages place answer
@@ -145,21 +186,12 @@ journey_said player (stage ∷ []) place answer arrives e =
     let opponent = player.opponent in
     let side = player.side in
     let line = place_line stage.place in
-    let first = start_line side stage.code stage.plies stage.end in
-    let moves = plies_text opponent side stage.plies in
-    let last = end_text stage.end in
+    let shown = shown_text opponent side stage.code stage.number stage.plies stage.end in
     let name = naming place answer in
     let stage_said : stage_text opponent side stage ++ name ≡ [] =
     subst (λ (l : List ℕ). l ++ name ≡ []) (append-nil (stage_text opponent side stage)) e in
-    let way_said : way_text opponent side stage.code stage.plies stage.end ++ name ≡ [] =
-    no_right line (way_text opponent side stage.code stage.plies stage.end ++ name)
-    (sym (append_assoc line (way_text opponent side stage.code stage.plies stage.end) name)
-    ∙ stage_said) in
-    let rest_said : (moves ++ last) ++ name ≡ [] =
-    no_right first ((moves ++ last) ++ name)
-    (sym (append_assoc first (moves ++ last) name) ∙ way_said) in
-    end_said side stage.end place answer arrives.1
-    (no_right moves (last ++ name) (sym (append_assoc moves last name) ∙ rest_said))
+    shown_said side stage.plies stage.end place answer arrives.1 opponent stage.code stage.number
+    (no_right line (shown ++ name) (sym (append_assoc line shown name) ∙ stage_said))
 journey_said player (stage ∷ next ∷ stages) place answer arrives e =
     let first = stage_text player.opponent player.side stage in
     let others = journey_text player.opponent player.side (next ∷ stages) in

@@ -92,12 +92,13 @@ module _ {player : Player} {table : List ℕ} {behind : List (List ℕ)} {p : Bo
     pub arrives : Arrives player.side has.stages place answer
     pub told : text ≡ played_text player has.stages place answer
 
--- the journey is told to its end. From a win it is played to the mate of the opponent, or to where
--- an exit line of the last table says that the side wins, unless the input ends it. From a hold the
--- side is not mated, and no exit is bad for it. Where the codes in TABLE are its tables over the
--- BACKs, the code of the start is that of the bound, which says of chess what Means states, under
--- the premise that the exits are true. They are true where the BACKs are exact, each over those
--- before it, and the exit lines of all texts are true
+-- the journey is told to its end, or a line from a hold to the first position that comes again at
+-- its table. From a win it is played to the mate of the opponent, or to where an exit line of the
+-- last table says that the side wins, unless the input ends it. From a hold the side is not mated,
+-- and no exit is bad for it. Where the codes in TABLE are its tables over the BACKs, the code of the
+-- start is that of the bound, which says of chess what Means states, under the premise that the exits
+-- are true. They are true where the BACKs are exact, each over those before it, and the exit lines of
+-- all texts are true
 pub record TellsJourney (player : Player) (table : List ℕ) (behind : List (List ℕ)) (p : Board)
     (files : Files) (heard text : List ℕ) : Type 0 where
   pub has : HasJourney player table behind p files heard

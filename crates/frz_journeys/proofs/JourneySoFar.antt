@@ -23,13 +23,13 @@ use Rattle.frz_ways.specs.declared.way_end.WayEnd.{WayEnd}
 use Rattle.frz_ways.specs.ChessGames.{after_plies}
 use Rattle.frz_ways.specs.Costs.{way_numbers}
 use Rattle.frz_ways.specs.Hearing.{MayFollow, StaysEnded}
-use Rattle.frz_ways.specs.PlayLoaded.{IsSettled, PlaysLoaded}
-use Rattle.frz_ways.specs.PlayWay.{LeftBy, WayPlayed}
+use Rattle.frz_ways.specs.PlayLoaded.{IsSettled}
+use Rattle.frz_ways.specs.PlayWay.{LeftBy}
 use Rattle.frz_ways.specs.Reading.{Input}
+use Rattle.frz_ways.specs.Shown.{PlaysShown, WayShown, shown_text}
 use Rattle.frz_ways.specs.WayEnds as ways
 use Rattle.frz_ways.specs.WayEnds.{ended, told, IsFinishOf}
 use Rattle.frz_ways.specs.Ways.{GoesOn}
-use Rattle.frz_ways.specs.WayTexts.{way_text}
 use Rattle.frz_journeys.specs.declared.onward.Entry.{Entry}
 use Rattle.frz_journeys.specs.declared.place.Arrival.{Arrival}
 use Rattle.frz_journeys.specs.declared.place.Place.{Place}
@@ -108,15 +108,15 @@ module _ (opponent : Opponent) (side : Colour) (before : List BackTable) (table 
   module _ (old new : Reader) (bytes text : List ℕ) (steps now : ℕ) where
     abbrev pub IsPlayedSo : Result Finish PlayFault → Type 0
     IsPlayedSo result =
-        PlaysLoaded (arena_over tables own) opponent side (codes_of side own) start old new bytes text
+        PlaysShown (arena_over tables own) opponent side (codes_of side own) start old new bytes text
         result steps now
 
     -- is the stage of each journey from there
     stage_played : (result : Result Finish PlayFault) → IsPlayedSo result → (left : List ℕ)
         → MayFollow new left → (stage : Stage) (mid : Input)
         → IsOwnStage (record { left = bytes ++ left; more = old.more }) stage mid
-        → WayPlayed opponent side stage.code (bytes ++ left) bytes text (ended result) stage.plies
-        stage.end mid
+        → WayShown opponent side stage.code stage.number (bytes ++ left) bytes text (ended result)
+        stage.plies stage.end mid
         × (now ≤ steps + numbers_of stage)
         × LeftBy result (record { left = left; more = new.more }) stage.plies stage.end mid
     stage_played result played left may stage mid is =
@@ -125,8 +125,10 @@ module _ (opponent : Opponent) (side : Colour) (before : List BackTable) (table 
         ap (slice_index (codes_of side own)) (sym same) ∙ sym is.kept in
         let h = played left may stage.plies stage.end mid
         (stage_way (record { left = bytes ++ left; more = old.more }) stage mid is) in (
-          subst (λ c. WayPlayed opponent side c (bytes ++ left) bytes text (ended result) stage.plies
-              stage.end mid) code h.0,
+          subst (λ n. WayShown opponent side stage.code n (bytes ++ left) bytes text (ended result)
+              stage.plies stage.end mid) (sym same)
+              (subst (λ c. WayShown opponent side c start (bytes ++ left) bytes text (ended result)
+              stage.plies stage.end mid) code h.0),
           subst (λ n. now ≤ steps + length (way_numbers (Inside (0, n)) stage.plies)) (sym same) h.1,
           h.2,
         )
@@ -153,7 +155,7 @@ module _ (opponent : Opponent) (side : Colour) (before : List BackTable) (table 
     stage_is_whole_journey result played settled left may stage stages last mid is follows none =
         let h = stage_played result played left may stage mid is in
         let w = h.0 in
-        let way = way_text opponent side stage.code stage.plies stage.end in
+        let way = shown_text opponent side stage.code stage.number stage.plies stage.end in
         let over : (stages ≡ []) × (last ≡ mid) =
         subst (λ (o : Option (ℕ × Link)). Follows opponent side tables stage p mid stages last o) none
         follows in (
@@ -186,7 +188,7 @@ module _ (opponent : Opponent) (side : Colour) (before : List BackTable) (table 
     stage_cut_short result played left may stage stages last mid is follows finish =
         let h = stage_played result played left may stage mid is in
         let w = h.0 in
-        let way = way_text opponent side stage.code stage.plies stage.end in
+        let way = shown_text opponent side stage.code stage.number stage.plies stage.end in
         let front = later_front opponent side tables stage p mid stages last
         (onward tables own p stage.plies stage.end) follows in (
           record {
@@ -360,7 +362,7 @@ module _ (opponent : Opponent) (side : Colour) (before : List BackTable) (table 
             let front = follows_both new later more left stays may in
             let h = stage_played (Ok (Left number move v)) played (more ++ left) front stage mid is in
             let r = rest_played left may stage (second ∷ stages) last mid is follows in
-            let way = way_text opponent side stage.code stage.plies stage.end in
+            let way = shown_text opponent side stage.code stage.number stage.plies stage.end in
             let whole : text ≡ way =
             sym (append-nil text) ∙ ap (λ (l : List ℕ). text ++ l) (sym h.0.finishes.1)
             ∙ h.0.begins in (

@@ -6,7 +6,6 @@ use Rattle.frz_board.specs.Boards.{Board}
 use Rattle.frz_board.specs.declared.man.Colour.{Colour}
 use Rattle.frz_sets.specs.Views.{RuleLines}
 use Rattle.frz_sets.specs.declared.exit.Value.{Value}
-use Rattle.frz_sets.specs.declared.exit.Value.TheVariants.{Unknown}
 use Rattle.frz_arena.specs.Counted.{counted}
 use Rattle.frz_arena.specs.declared.class.Class.TheVariants.{Good, Safe}
 use Rattle.frz_arena.specs.WayEnds.{Wrong, NoBound, Mated, Stalemated, Exit, Cut, Stopped, EndsWon, EndsHeld}

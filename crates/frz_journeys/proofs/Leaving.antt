@@ -20,7 +20,7 @@ use Rattle.frz_ways.specs.declared.session_end.PlayFault.{PlayFault}
 use Rattle.frz_ways.specs.declared.way_end.Finish.{Finish}
 use Rattle.frz_ways.specs.declared.way_end.Finish.TheVariants.{Here, Left}
 use Rattle.frz_ways.specs.ChessGames.{IsGame, IsPlyFrom, after_plies}
-use Rattle.frz_ways.specs.PlayLoaded.{PlaysLoaded}
+use Rattle.frz_ways.specs.Shown.{PlaysShown}
 use Rattle.frz_ways.specs.PlayWay.{LeftBy}
 use Rattle.frz_ways.specs.Reading.{Input}
 use Rattle.frz_ways.specs.Ways.{WayPly, EndOfWay, GoesOn}
@@ -62,7 +62,7 @@ module _ (rules : RuleLines) (value : Board → Value) (opponent : Opponent) (si
   -- a way leaves its set by a legal move
   pub left_legally : (old new : Reader) (bytes text : List ℕ) (result : Result Finish PlayFault)
       (before now : ℕ)
-      → PlaysLoaded (graph_by rules value) opponent side codes start old new bytes text result before
+      → PlaysShown (graph_by rules value) opponent side codes start old new bytes text result before
       now → AreThere → AreGames
       → ((q : Board) (m : Step) → Contains (legal_moves_of q) m ↔ (IsStep m × (is_legal q m ≡ true)))
       → LeftLegally rules.groups result

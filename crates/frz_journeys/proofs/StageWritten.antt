@@ -16,9 +16,8 @@ use Rattle.frz_ways.specs.declared.session_end.PlayFault.{PlayFault}
 use Rattle.frz_ways.specs.declared.session_end.PlayFault.TheVariants as plays
 use Rattle.frz_ways.specs.declared.way_end.Finish.{Finish}
 use Rattle.frz_ways.specs.Hearing.{StaysEnded}
-use Rattle.frz_ways.specs.PlayLoaded.{PlaysLoaded}
+use Rattle.frz_ways.specs.Shown.{PlaysShown, shown_text}
 use Rattle.frz_ways.specs.SessionFaults.{TookBytes, WroteBy}
-use Rattle.frz_ways.specs.WayTexts.{way_text}
 use Rattle.frz_ways.proofs.Lemmas.{took_none, way_front}
 use Rattle.frz_journeys.specs.declared.place.Place.{Place}
 use Rattle.frz_journeys.specs.declared.place.Place.TheVariants.{Own, Behind}
@@ -40,14 +39,14 @@ by_output P (Err fault) is h = subst (λ (f : PlayFault). P (Err f)) (sym is) h
 nothing_played_nothing_written : (arena : Arena Step ℕ Value) (opponent : Opponent) (side : Colour)
     (cs : List ℕ)
     (start : ℕ) (reader : Reader) (steps : ℕ)
-    → PlaysLoaded arena opponent side cs start reader reader [] []
+    → PlaysShown arena opponent side cs start reader reader [] []
     (Err (plays.Line faults.Output)) steps steps
 nothing_played_nothing_written arena opponent side cs start reader steps = λ left may plies end last
     w.
     let front = way_front arena opponent side (λ k. cs) 0 (record { left = left; more = reader.more })
     last (0, start) plies end w in (
       record {
-        rest = way_text opponent side (slice_index cs start) plies end;
+        rest = shown_text opponent side (slice_index cs start) start plies end;
         unread = front.0;
         begins = refl;
         takes = front.1;
@@ -65,7 +64,7 @@ PlayedBehind arena opponent side cs start place old new result source left out t
     (text bytes : List ℕ) × IsLines text
     × WroteBy result (place_line place ++ text) out taken × TookBytes bytes source left
     × StaysEnded old new bytes
-    × PlaysLoaded arena opponent side cs start old new bytes text result before now
+    × PlaysShown arena opponent side cs start old new bytes text result before now
 
 -- the sink failed within the line
 pub line_failed : (arena : Arena Step ℕ Value) (opponent : Opponent) (side : Colour) (cs : List ℕ)

@@ -9,7 +9,8 @@ ghost use Rattle.frz_ways.specs.declared.opponent.Opponent.TheVariants as oppone
 ghost use Rattle.frz_ways.specs.declared.session_end.TheConstants.{MOST_LINES};
 ghost use Rattle.frz_ways.specs.SessionFaults.{WroteBy, InputCause, TookBytes};
 ghost use Rattle.frz_ways.specs.Hearing.{HasEnded, StaysEnded};
-ghost use Rattle.frz_ways.specs.PlayLoaded.{IsSettled, PlaysLoaded};
+ghost use Rattle.frz_ways.specs.PlayLoaded.{IsSettled};
+ghost use Rattle.frz_ways.specs.Shown.{PlaysShown};
 ghost use Rattle.frz_ways.specs.WayEnds.{IsFinishOf};
 ghost use Rattle.frz_journeys.specs.Tables.{arena_over, codes_of};
 ghost use Rattle.frz_journeys.specs.JourneyTexts.{IsSmall, place_line};
@@ -30,7 +31,7 @@ use frz_steps::Steps;
 use frz_store::{Sink, Source};
 use frz_table::FileKind;
 use frz_ways::laws::ways::{one_way, ways_are_games};
-use frz_ways::{Finish, PlayFault, Player, Reader, play_loaded};
+use frz_ways::{Finish, PlayFault, Player, Reader, play_shown};
 use std::sync::ledger::Ledger;
 
 /// Plays the way of the side from the number `start` of the table, whose exits have the values of
@@ -52,7 +53,7 @@ fn play_by<B: ExitBook, I: Source, O: Sink, L: Ledger>(
         × WroteBy result text (sink_of O.Sink out.old) (sink_of O.Sink out.new)
         × TookBytes bytes (source_of I.Source input.old) (source_of I.Source input.new)
         × StaysEnded reader.old reader.new bytes
-        × PlaysLoaded (graph_by table.now.table.rules (B.value_at book.now)) player.opponent
+        × PlaysShown (graph_by table.now.table.rules (B.value_at book.now)) player.opponent
         player.side (codes_of player.side (link_loaded table.now)) start reader.old reader.new
         bytes text result steps.old steps.new }
     ensures left { LeftLegally table.now.table.rules.groups result }
@@ -81,7 +82,7 @@ fn play_by<B: ExitBook, I: Source, O: Sink, L: Ledger>(
         white: &table.white,
         black: &table.black,
     };
-    play_loaded(&game, &entries, player, start, reader, input, out, steps)
+    play_shown(&game, &entries, player, start, reader, input, out, steps)
 }
 
 /// Plays the way of the side from the number `start` of the table, with the tables `before` it
@@ -103,7 +104,7 @@ fn play_at<I: Source, O: Sink, L: Ledger>(
         × WroteBy result text (sink_of O.Sink out.old) (sink_of O.Sink out.new)
         × TookBytes bytes (source_of I.Source input.old) (source_of I.Source input.new)
         × StaysEnded reader.old reader.new bytes
-        × PlaysLoaded (arena_over (map link_loaded before.now) (link_loaded table.now))
+        × PlaysShown (arena_over (map link_loaded before.now) (link_loaded table.now))
         player.opponent player.side (codes_of player.side (link_loaded table.now)) start reader.old
         reader.new bytes text result steps.old steps.new }
     ensures left { LeftLegally table.now.table.rules.groups result }
@@ -151,7 +152,7 @@ pub fn play_stage<I: Source, O: Sink, L: Ledger>(
         (sink_of O.Sink out.old) (sink_of O.Sink out.new)
         × TookBytes bytes (source_of I.Source input.old) (source_of I.Source input.new)
         × StaysEnded reader.old reader.new bytes
-        × PlaysLoaded (arena_over (map link_loaded before.now) (link_loaded table.now))
+        × PlaysShown (arena_over (map link_loaded before.now) (link_loaded table.now))
         player.opponent player.side (codes_of player.side (link_loaded table.now)) start reader.old
         reader.new bytes text result steps.old steps.new }
     ensures left { LeftLegally table.now.table.rules.groups result }

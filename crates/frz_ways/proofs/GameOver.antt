@@ -1,14 +1,12 @@
 -- How chess stands where a way over the numbers of a set is over.
-use Rattle.std.proofs.Common.{◌≡◌, ℕ, suc, zero, inl, inr, Bool, true, false, List, [], ◌∷◌, Option, Some, refl, sym, subst, ap, ◌∙◌}
+use Rattle.std.proofs.Common.{◌≡◌, ℕ, suc, zero, inl, inr, Bool, true, false, List, [], ◌∷◌, Some, refl, sym, subst, ap, ◌∙◌}
 use Rattle.std.specs.Prelude.{slice_get}
 use Rattle.std.specs.List.{Contains}
-use Rattle.std.proofs.lemmas.Bool.{cases_Bool}
 use Rattle.frz_board.specs.declared.man.Colour.{Colour}
 use Rattle.frz_board.specs.Attacks.{is_in_check}
 use Rattle.frz_board.specs.Boards.{Board}
 use Rattle.frz_board.specs.Men.{same_colour}
 use Rattle.frz_board.specs.Moving.{Step}
-use Rattle.frz_fide.specs.Ends.{IsMate, IsStalemate}
 use Rattle.frz_fide.specs.Legal.{after}
 use Rattle.frz_fide.specs.Listing.{legal_moves_of}
 use Rattle.frz_sets.specs.declared.exit.Value.{Value}
@@ -18,7 +16,6 @@ use Rattle.frz_index.proofs.Lemmas.{of_member}
 use Rattle.frz_arena.specs.declared.arm.Arm.{Arm}
 use Rattle.frz_arena.specs.declared.arm.Next.{Next}
 use Rattle.frz_arena.specs.declared.arm.Next.TheVariants.{Inside, Outside}
-use Rattle.frz_arena.specs.declared.node.Node.{Node}
 use Rattle.frz_arena.specs.declared.node.Node.TheVariants.{Mate, Stalemate}
 use Rattle.frz_arena.specs.Counted.{after as later}
 use Rattle.frz_arena.specs.Games.{next_by, node_by}

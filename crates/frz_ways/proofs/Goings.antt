@@ -56,7 +56,7 @@ module _ (arena : Arena Step ℕ Value) (opponent : Opponent) (side : Colour)
   over_here k s t q (x ∷ ys) e f w over = absurd (let h = w.1 in cc)
 
   -- a ply that the codes find
-  taken_codes : (o : Opponent) (own : Bool) (s u : Input) (x : WayPly) → by_codes o own ≡ true
+  pub taken_codes : (o : Opponent) (own : Bool) (s u : Input) (x : WayPly) → by_codes o own ≡ true
       → IsTakenBy (way_player arena opponent side kept) own (finder arena o) s x u
       → IsChosen (counted arena) side (known kept) x.mover x.from x.place x.arm × (u ≡ s)
   taken_codes opponents.Codes true s u x by h = (h.0, h.2)

@@ -8,3 +8,5 @@ pub use Rattle.frz_ways.proofs.CodesKept.{by_table, may_before}
 pub use Rattle.frz_ways.proofs.WaySoFar.{stays_on}
 pub use Rattle.frz_ways.proofs.Taking.{ends_itself, ends_on, held_whole, some_rest, took_none, took_on}
 pub use Rattle.frz_ways.proofs.TurnWritten.{same_wrote, wrote_after}
+pub use Rattle.frz_ways.proofs.Repeating.{same_tail}
+pub use Rattle.frz_ways.proofs.Again.{again_later, again_is, fresh_more, none_again, place_of_old}

@@ -18,6 +18,11 @@ mod TurnFaulted
 mod Turning
 mod TurnAnswers
 mod TurnWritten
+mod LineTurning
+mod Again
+mod Repeating
+mod HeldLines
+mod HeldTurns
 mod WayFinished
 mod InMemory
 mod WaySoFar

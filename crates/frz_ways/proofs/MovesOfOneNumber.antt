@@ -151,7 +151,7 @@ none_map : {X Y : Type 0} (f : X → Y) (test : X → Bool) (seen : Y → Bool)
 none_map f test seen same xs none y h =
     let r = from_mapped f xs y h in ap seen (sym r.2) ∙ (same r.0 ∙ none r.0 r.1)
 
-found_map : {X Y : Type 0} (f : X → Y) (test : ℕ → X → Bool) (seen : ℕ → Y → Bool)
+pub found_map : {X Y : Type 0} (f : X → Y) (test : ℕ → X → Bool) (seen : ℕ → Y → Bool)
     → ((c : ℕ) (x : X) → seen c (f x) ≡ test c x)
     → (won : Bool) (c : ℕ) (xs : List X) (i : ℕ) (x : X) → IsFound test won c xs i x
     → IsFound seen won c (map f xs) i (f x)

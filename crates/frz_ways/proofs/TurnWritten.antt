@@ -51,7 +51,7 @@ use Rattle.frz_ways.proofs.TurnFaulted.{IsStoreFault, store_goes, opening_failed
 use Rattle.frz_ways.proofs.Taking.{took_none}
 use Rattle.frz_ways.proofs.TurnsLeaveWays.{Stands, TailBy, turn_over, way_stage, over_tail, own_tail, reply_tail, stop_tail}
 
-moved_lines : (word : List ℕ) (a : Arm Step ℕ Value) → IsLines (moved_text word a)
+pub moved_lines : (word : List ℕ) (a : Arm Step ℕ Value) → IsLines (moved_text word a)
 moved_lines word a = as_lines (moved_text word a) (ends_behind word (arm_text a) (ends_arm a))
 
 refused_lines : (n : ℕ) → IsLines (refused_text n)
@@ -66,7 +66,7 @@ lines_if : (b : Bool) (text : List ℕ) → IsLines text → IsLines (if b then 
 lines_if true text l = l
 lines_if false text l = inl refl
 
-opening_lines : (side : Colour) (cursor : Cursor) (due : Due) → IsLines (opening side cursor due)
+pub opening_lines : (side : Colour) (cursor : Cursor) (due : Due) → IsLines (opening side cursor due)
 opening_lines side cursor (dues.Wrong given) = inl refl
 opening_lines side cursor dues.NoBound = inl refl
 opening_lines side cursor (dues.Mate m) =

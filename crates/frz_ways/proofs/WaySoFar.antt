@@ -162,22 +162,22 @@ after_ply arena opponent side kept start code lines cursor next old new numbers 
     }
 
 -- the turn by which a way finishes so
-abbrev turn_at : Finish → Turn
+abbrev pub turn_at : Finish → Turn
 turn_at (Here end) = Over end
 turn_at (Left number move v) = Out move v
 
-abbrev finishes_by : Result Finish PlayFault → Result Turn PlayFault
+abbrev pub finishes_by : Result Finish PlayFault → Result Turn PlayFault
 finishes_by (Ok finish) = Ok (turn_at finish)
 finishes_by (Err fault) = Err fault
 
 -- what leaves the set does so from this number
-abbrev IsFrom : (number : ℕ) → Result Finish PlayFault → Type 0
+abbrev pub IsFrom : (number : ℕ) → Result Finish PlayFault → Type 0
 IsFrom number (Ok (Left from move v)) = number ≡ from
 IsFrom number result = ⊤
 
 module _ (arena : Arena Step ℕ Value) (opponent : Opponent) (side : Colour) (kept : ℕ → List ℕ)
     (cursor : Cursor) (left : Input) (end : EndOfWay) (last : Input) (rest : List ℕ) where
-  left_over : (plies : List WayPly) (answer : Result Finish PlayFault)
+  pub left_over : (plies : List WayPly) (answer : Result Finish PlayFault)
       → Leaves arena opponent side kept cursor left plies end last rest (finishes_by answer)
       → (unread : List ℕ) × (unread ++ last.left ≡ left.left)
       × Finishes (ended answer) (told side end) rest unread
@@ -189,7 +189,7 @@ module _ (arena : Arena Step ℕ Value) (opponent : Opponent) (side : Colour) (k
   )
   left_over plies (Err fault) h = h
 
-  left_by : (front others plies : List WayPly) (answer : Result Finish PlayFault)
+  pub left_by : (front others plies : List WayPly) (answer : Result Finish PlayFault)
       → plies ≡ front ++ others → IsFrom cursor.number answer
       → Leaves arena opponent side kept cursor left others end last rest (finishes_by answer)
       → LeftBy answer left plies end last

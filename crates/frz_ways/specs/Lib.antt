@@ -23,3 +23,5 @@ pub mod WayEnds
 pub mod Turns
 pub mod PlayWay
 pub mod PlayLoaded
+pub mod Shown
+pub mod LineTurns

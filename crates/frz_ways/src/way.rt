@@ -1,5 +1,5 @@
 //! The loop that plays a way: a line or a session.
-ghost use Rattle.std.specs.Prelude.{◌≡◌, ◌⊎◌, ◌≤◌, ◌<◌, ◌+◌, ◌*◌, ℕ, suc, List, true, false, Err, IfOk};
+ghost use Rattle.std.specs.Prelude.{◌≡◌, ◌⊎◌, ◌≤◌, ◌<◌, ◌+◌, ◌*◌, ℕ, suc, List, true, false, Err, IfOk, Result};
 ghost use Rattle.frz_store.specs.Told.{source_of, sink_of, StoreQuiet};
 ghost use Rattle.frz_answer.specs.Answers.{IsLines};
 ghost use Rattle.frz_answer.specs.World.{spent_by};
@@ -10,11 +10,15 @@ ghost use Rattle.frz_ways.specs.Kept.{MayRead};
 ghost use Rattle.frz_ways.specs.Reads.{HasDifferentArms};
 ghost use Rattle.frz_ways.specs.declared.end.LineFault.TheVariants as faults;
 ghost use Rattle.frz_ways.specs.declared.opponent.Opponent.TheVariants as opponents;
+ghost use Rattle.frz_ways.specs.declared.playing.Turn.{Turn};
+ghost use Rattle.frz_ways.specs.declared.session_end.PlayFault.{PlayFault};
 ghost use Rattle.frz_ways.specs.declared.session_end.PlayFault.TheVariants.{Line};
 ghost use Rattle.frz_ways.specs.declared.session_end.TheConstants.{MOST_LINES};
 ghost use Rattle.frz_ways.specs.SessionFaults.{WroteBy, StoreCause, InputCause, TookBytes};
 ghost use Rattle.frz_ways.specs.Hearing.{HasEnded, StaysEnded};
 ghost use Rattle.frz_ways.specs.Turns.{GoesBy, TurnsTo, IsTurnOf};
+ghost use Rattle.frz_ways.specs.LineTurns.{Answers, LineTurn};
+ghost use Rattle.frz_ways.specs.PlayLoaded.{IsSettled};
 ghost use Rattle.frz_ways.specs.PlayWay.{Plays};
 ghost use Rattle.frz_ways.specs.WayEnds.{IsFinishOf};
 
@@ -33,7 +37,7 @@ use std::sync::ledger::Ledger;
 
 /// Plays one turn: it lists the moves of the number, reads their codes, and plays the ply there or
 /// ends the way.
-fn turn<G: NumberedGame<L>, T: KeptCodes<S>, S, I: Source, O: Sink, L: Ledger>(
+pub fn turn<G: NumberedGame<L>, T: KeptCodes<S>, S, I: Source, O: Sink, L: Ledger>(
     game: &G,
     table: &T,
     store: &mut S,
@@ -65,6 +69,14 @@ fn turn<G: NumberedGame<L>, T: KeptCodes<S>, S, I: Source, O: Sink, L: Ledger>(
         × ((codes : ℕ → List ℕ) → codes (suc cursor.played) ≡ read
         → GoesBy (G.arena game.now) player.opponent player.side codes cursor reader.old reader.new
         bytes text result)) }
+    ensures line { player.opponent ≡ opponents.Codes → IsSettled result
+        → (reader.new ≡ reader.old)
+        × ((due : Result Turn PlayFault) × (text : List ℕ) × IsLines text
+        × Answers due text result (sink_of O.Sink out.old) (sink_of O.Sink out.new)
+        × ((read : List ℕ)
+        × MayRead (T.known table.now (T.told store.old).files player.side) (T.size table.now) read
+        × ((codes : ℕ → List ℕ) → codes (suc cursor.played) ≡ read
+        → LineTurn (G.arena game.now) player.side codes cursor reader.old due text))) }
     ensures still_ended { reader.new.ended ≡ true → HasEnded (source_of I.Source input.new) }
     ensures no_more { reader.new.more ≤ reader.old.more }
     ensures unread { player.opponent ≡ opponents.Codes → input.new ≡ input.old }

@@ -35,17 +35,42 @@ const CORNER: &str = "k7/8/1K6/8/8/8/8/6Rn w - - 0 1";
 /// The codes of the rook's ending with one that is wrong, of the number to which a line comes.
 const WRONG_CODES: &[u32] = &[4, 6, 0, 0, 8, 5, 2, 2, 5, 5, 0, 0, 7, 7, 3, 3];
 
-/// A store whose calls fail so, with the knight's table and those of the rook.
+/// A rook that keeps the black king in the corner: 12 numbers.
+const KEEPING: &str = "freezer 1
+group white 1 K:b6
+group white 1 R:c1,c2,c3
+group black 1 K:a8,b8
+";
+
+/// White holds everywhere, and all that leaves the set is unknown, so that Black has no bound.
+const KEEPING_CODES: &[u32] = &[
+    1, 1, 1, 1, 1, 1, 1, 1, 1, 1, 1, 1, 5, 5, 5, 5, 5, 5, 7, 7, 7, 7, 7, 7,
+];
+
+/// The same rook before its first move, which leads into the set of the table behind: 4 numbers.
+const COMING: &str = "freezer 1
+group white 1 K:b6
+group white 1 R:c4
+group black 1 K:a8,b8
+";
+
+const COMING_CODES: &[u32] = &[1, 1, 1, 1, 5, 5, 7, 7];
+
+/// A store whose calls fail so, with the knight's table, those of the rook, and the rook's that keeps.
 fn filled(alloc: Global, fails: &[Failing]) -> Result<MemStore, Fail> {
     let knight = table_file(alloc, b"FREEZERB", KNIGHT.as_bytes(), 4, KNIGHT_CODES)?;
     let late = table_file(alloc, b"FREEZERB", KNIGHT.as_bytes(), 4, LATE_CODES)?;
     let rook = plain_file(alloc, rook::TEXT.as_bytes(), &rook::CODES)?;
     let wrong = plain_file(alloc, rook::TEXT.as_bytes(), WRONG_CODES)?;
+    let keeping = plain_file(alloc, KEEPING.as_bytes(), KEEPING_CODES)?;
+    let coming = table_file(alloc, b"FREEZERB", COMING.as_bytes(), 4, COMING_CODES)?;
     let files = [
         ("knight", knight.as_slice()),
         ("late", &late),
         ("rook", &rook),
         ("wrong", &wrong),
+        ("keeping", &keeping),
+        ("coming", &coming),
         ("empty", b""),
     ];
     store_with(alloc, fails.to_vec(alloc)?, &files)
@@ -115,6 +140,34 @@ const ROWS: &[Row] = &[
         End::Done(Status::Wrong),
         b"white wins within 4\ng1h1\nexit white wins 3\nback 1\nwhite wins within 3\na8b8\n\
             back 1: wrong white 1 kept 6 given 4\n",
+    ),
+    // From a hold: the position after the first move stands again after the fifth.
+    Row(
+        &["keeping", "k7/8/1K6/8/8/2R5/8/8 w - - 0 1", "white"],
+        End::Done(Status::Success),
+        b"white holds\nc3c1\na8b8\nc1c2\nb8a8\nc2c1\nrepetition\n",
+    ),
+    // The start itself stands again after the fourth.
+    Row(
+        &[
+            "keeping",
+            "1k6/8/1K6/8/8/8/8/2R5 b - - 0 1",
+            "white",
+            "rook",
+        ],
+        End::Done(Status::Success),
+        b"white holds\nb8a8\nc1c2\na8b8\nc2c1\nrepetition\n",
+    ),
+    Row(
+        &[
+            "coming",
+            "k7/8/1K6/8/2R5/8/8/8 w - - 0 1",
+            "white",
+            "keeping",
+        ],
+        End::Done(Status::Success),
+        b"white holds\nc4c1\nexit white holds\n\
+            back 1\nwhite holds\na8b8\nc1c2\nb8a8\nc2c1\nrepetition\n",
     ),
     Row(
         &["knight", CORNER, "black", "rook"],

@@ -218,17 +218,20 @@ MOST_PLIES = 100
 
 
 def cuts():
-    """A line from a hold is cut after 100 plies, and a session is not."""
+    """A line from a hold is cut after 100 plies, or ends where a position comes again; a session does not."""
     says = "commands.md, line and play: a line from a hold ends with `cut` after 100 plies"
+    again = "commands.md, line and play: from a hold it ends with `repetition`"
     fen = "7k/8/8/R7/8/8/6R1/K7 w - - 0 1"
     white = ["a1b1", "b1a1"] * 100
     black = ["h8h7", *["h7h6", "h6h7"] * 100]
     moves = [move for pair in zip(white, black) for move in pair]
     line = "white holds\n" + "".join(f"{move}\n" for move in moves[:MOST_PLIES]) + "cut\n"
+    # With White to move, b1 and h7 stand after two plies and after six.
+    once = "white holds\n" + "".join(f"{move}\n" for move in moves[:6]) + "repetition\n"
     plain, over = (table(SHUT_IN, [1] * 12, [5] * 6 + [7] * 6, magic) for magic in (MAGIC, LEANING))
     yield Case("freezer", ("line", "t", fen, "white"), {"t": plain}, 0, line, says)
-    yield Case("atlas", ("line", "t", fen, "white", "N.t"), {"t": over, "N.t": N_FILE}, 0, line, says)
-    yield Case("atlas", ("line", "t", fen, "white"), {"t": plain}, 0, line, says)
+    yield Case("atlas", ("line", "t", fen, "white", "N.t"), {"t": over, "N.t": N_FILE}, 0, once, again)
+    yield Case("atlas", ("line", "t", fen, "white"), {"t": plain}, 0, once, again)
     for count in (49, 50, 51, 150):
         said = "".join(f"{move}\n" for move in black[:count])
         told = "".join(f"move {one}\nreply {other}\n" for one, other in zip(white[:count], black))

@@ -1,7 +1,7 @@
 use Rattle.std.proofs.Common.{◌∙◌, map}
 use Rattle.frz_backs.specs.Links.{backs_of}
 use Rattle.frz_backs.specs.Loaded.{link_loaded}
-use Rattle.frz_ways.specs.PlayLoaded.{PlaysLoaded}
+use Rattle.frz_ways.specs.Shown.{PlaysShown}
 use Rattle.frz_journeys.specs.Tables.{codes_of}
 use Rattle.frz_journeys.proofs.WayByValues.{moved_leaning, moved_plain}
 use Rattle.frz_journeys.proofs.stage.play_at.Goals as goal
@@ -16,7 +16,7 @@ returns-in-Atlas-clause-played g c =
       w.3,
       w.4,
       w.5,
-      moved_leaning (λ arena. PlaysLoaded arena c.args.player.opponent c.args.player.side
+      moved_leaning (λ arena. PlaysShown arena c.args.player.opponent c.args.player.side
           (codes_of c.args.player.side (link_loaded table)) c.args.start c.args.reader.now
           c.play_by.new.reader w.1 w.0 c.play_by.result c.args.steps.now c.play_by.new.steps)
           table.table.kind c.new-book.result.rules.now table.table.rules c.new-book.result.backs.now
@@ -34,7 +34,7 @@ returns-in_default-clause-played g c =
       w.3,
       w.4,
       w.5,
-      moved_plain (λ arena. PlaysLoaded arena c.args.player.opponent c.args.player.side
+      moved_plain (λ arena. PlaysShown arena c.args.player.opponent c.args.player.side
           (codes_of c.args.player.side (link_loaded table)) c.args.start c.args.reader.now
           c.play_by-in_default.new.reader w.1 w.0 c.play_by-in_default.result c.args.steps.now
           c.play_by-in_default.new.steps)

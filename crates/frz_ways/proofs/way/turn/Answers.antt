@@ -1,5 +1,7 @@
 use Rattle.frz_arena.proofs.Lemmas.{one_chosen}
-use Rattle.frz_ways.specs.Turns.{late_by}
+use Rattle.std.proofs.Common.{◌≡◌, refl, subst}
+use Rattle.frz_ways.specs.Turns.{due_at, late_by, IsPlayed}
+use Rattle.frz_ways.proofs.LineTurning.{has_arm, opening_lined, played_lined, store_unsettled}
 use Rattle.frz_ways.proofs.PlyDues.{has_move}
 use Rattle.frz_store.specs.Told.{source_of, sink_of}
 use Rattle.frz_ways.proofs.TurnAnswers.{played_kind, played_settled, settled_cause, settled_placed, still_ended, still_no_more, store_kind}
@@ -123,3 +125,53 @@ returns-clause-kind g c =
     c.in_ok-due.ensures.due)
     (sink_of g.O.Sink c.write_opening.new.out) (sink_of g.O.Sink c.play.new.out)
     c.play.ensures.played
+
+pub returns-in_err-due-clause-line : goal.returns-in_err-due-clause-line
+returns-in_err-due-clause-line g c = λ by settled.
+    absurd (store_unsettled c.in_err-due.field-0.0 c.from_residual.result c.from_residual.ensures.1
+    settled)
+
+pub returns-in_err-write_opening-clause-line : goal.returns-in_err-write_opening-clause-line
+returns-in_err-write_opening-clause-line g c = λ by settled. (
+  refl,
+  opening_lined one_chosen c.filled.ensures
+      (g.met.G.NumberedGame.finite c.args.game.now c.requires.sound)
+      c.args.player.side c.args.cursor c.inspect.new.lists.codes.items c.in_ok-due.ensures.arms
+      (g.T.KeptCodes.known c.args.table.now (g.T.KeptCodes.told c.args.store.now).files
+      c.args.player.side) (g.T.KeptCodes.size c.args.table.now)
+      c.in_ok-due.ensures.codes c.in_ok-due.due
+      (subst (λ o. c.in_ok-due.due ≡ due_at (g.G.NumberedGame.arena c.args.game.now) o
+      c.args.player.side c.args.cursor c.inspect.new.lists.nexts.items
+      c.inspect.new.lists.codes.items) by c.in_ok-due.ensures.due)
+      (has_arm c.args.player.side c.args.cursor c.inspect.new.lists.nexts.items
+      c.inspect.new.lists.codes.items c.in_ok-due.due c.in_ok-due.ensures.read
+      (has_move (g.met.G.NumberedGame.finite c.args.game.now c.requires.sound) c.args.player.side
+      c.args.cursor c.inspect.new.lists.codes.items c.in_ok-due.ensures.arms c.in_ok-due.ensures.read
+      c.requires.stands (late_by c.args.player.opponent c.args.cursor.played) c.in_ok-due.due
+      c.in_ok-due.ensures.due)) c.args.reader.now
+      c.from_residual-in_err-write_opening.result
+      (sink_of g.O.Sink c.args.out.now)
+      (sink_of g.O.Sink c.write_opening.new.out) c.from_residual-in_err-write_opening.ensures.1
+      c.in_err-write_opening.ensures.failed,
+)
+
+pub returns-clause-line : goal.returns-clause-line
+returns-clause-line g c = λ by settled.
+    played_lined one_chosen c.filled.ensures
+    (g.met.G.NumberedGame.finite c.args.game.now c.requires.sound)
+    c.args.player.side c.args.cursor c.inspect.new.lists.codes.items c.in_ok-due.ensures.arms
+    (g.T.KeptCodes.known c.args.table.now (g.T.KeptCodes.told c.args.store.now).files
+    c.args.player.side) (g.T.KeptCodes.size c.args.table.now)
+    c.in_ok-due.ensures.codes c.in_ok-due.due
+    (subst (λ o. c.in_ok-due.due ≡ due_at (g.G.NumberedGame.arena c.args.game.now) o
+    c.args.player.side c.args.cursor c.inspect.new.lists.nexts.items
+    c.inspect.new.lists.codes.items) by c.in_ok-due.ensures.due) c.args.reader.now
+    c.play.new.reader
+    c.play.result (source_of g.I.Source c.args.input.now) (source_of g.I.Source c.play.new.input)
+    (sink_of g.O.Sink c.args.out.now) (sink_of g.O.Sink c.write_opening.new.out)
+    (sink_of g.O.Sink c.play.new.out) c.in_ok-write_opening.ensures.ok
+    (subst (λ o. IsPlayed o c.args.player.side c.args.cursor c.in_ok-due.due
+    c.inspect.new.lists.nexts.items c.inspect.new.lists.codes.items c.args.reader.now
+    c.play.new.reader c.play.result (source_of g.I.Source c.args.input.now)
+    (source_of g.I.Source c.play.new.input) (sink_of g.O.Sink c.write_opening.new.out)
+    (sink_of g.O.Sink c.play.new.out)) by c.play.ensures.played)

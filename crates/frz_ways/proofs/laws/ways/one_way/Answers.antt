@@ -1,4 +1,4 @@
-use Rattle.std.proofs.Common.{refl, ℕ, List}
+use Rattle.std.proofs.Common.{refl, List}
 use Rattle.frz_arena.proofs.Lemmas.{counted_lawful, counted_turns}
 use Rattle.frz_game.specs.Games.{game_of, graph_by}
 use Rattle.frz_game.specs.Numbers.{numbers_by}
