@@ -16,6 +16,7 @@ use Rattle.frz_backs.specs.FileOn.{back_of}
 use Rattle.frz_backs.specs.Links.{Link, value_over}
 use Rattle.frz_atlas.specs.declared.fault.BackFault.{BackFault}
 use Rattle.frz_atlas.specs.declared.fault.BackFault.TheVariants.{Refused, Wrong}
+pub use Rattle.frz_backs.specs.Behind.{value_behind}
 
 -- the bytes begin as a table that leans on others
 abbrev pub leans : List ℕ → Bool

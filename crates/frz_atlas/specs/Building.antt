@@ -7,7 +7,7 @@ use Rattle.frz_sets.specs.Views.{RuleLines}
 use Rattle.frz_store.specs.Outside.{Rose}
 use Rattle.frz_store.specs.Told.{StoreTold, StoreFine, StoreQuiet}
 use Rattle.frz_store.specs.Writes.{Wrote, WrotePart}
-use Rattle.frz_backs.specs.Building.{writing_calls}
+pub use Rattle.frz_backs.specs.Building.{writing_calls}
 use Rattle.frz_atlas.specs.Behind.{AreJudged, IsRefusedAt, TableBytes, backs_in}
 use Rattle.frz_atlas.specs.Costs.{bytes_of, calls_of, steps_of}
 use Rattle.frz_atlas.specs.FileOver.{IsFileOver}

@@ -11,3 +11,13 @@ pub mod Reading
 pub use Rattle.frz_backs.specs.Books
 pub use Rattle.frz_backs.specs.FileOn
 pub use Rattle.frz_backs.specs.Links
+pub use Rattle.frz_backs.specs.Loaded
+pub use Rattle.frz_backs.specs.BackTable
+pub use Rattle.frz_backs.specs.Values
+pub use Rattle.frz_backs.specs.Codes
+pub use Rattle.frz_backs.specs.Decided
+pub use Rattle.frz_backs.specs.ExactOver
+pub use Rattle.frz_backs.specs.LinkPlies
+pub use Rattle.frz_check.specs.declared.verdict.Verdict
+pub use Rattle.frz_check.specs.Kept
+pub use Rattle.frz_check.specs.Verdicts

@@ -15,6 +15,7 @@ mod reading;
 pub use building::{build_atlas, build_over};
 pub use checking::{Checked, check_atlas};
 pub use fault::{AtlasFault, BackFault};
+pub use frz_backs::{AtlasBook, BackTable, codes_on, leans};
 pub use kinds::open_own;
 pub use loading::{load_behind, load_own};
 pub use opening::{open_all, open_behind, open_over};

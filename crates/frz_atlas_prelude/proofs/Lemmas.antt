@@ -31,3 +31,4 @@ pub use Rattle.frz_atlas_prelude.proofs.WordsAsked.{asked_lawful, ran_asked, ran
 pub use Rattle.frz_atlas_prelude.proofs.WordsGiven.{given_lawful, ran_given, ran_ungiven}
 pub use Rattle.frz_atlas_prelude.proofs.RulesRead.{bytes_to_read, calls_to_read, holds_rules, spent_by_files}
 pub use Rattle.frz_atlas_prelude.proofs.RulesAnswered.{held_rules, not_refused, one_refusal, some_answer}
+pub use Rattle.frz_atlas.proofs.Lemmas.{kept_backs}

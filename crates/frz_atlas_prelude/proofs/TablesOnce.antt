@@ -8,11 +8,11 @@ use Rattle.frz_table.specs.declared.fault.TableFault.{TableFault}
 use Rattle.frz_table.specs.declared.fault.TableFault.TheVariants.{Missing}
 use Rattle.frz_table.specs.Opening.{Contents, opened, own_format}
 use Rattle.frz_table.proofs.Lemmas.{belongs, opened_missing}
-use Rattle.frz_check.specs.declared.verdict.Verdict.{Verdict}
-use Rattle.frz_check.specs.declared.verdict.Verdict.TheVariants as verdicts
-use Rattle.frz_check.specs.Kept.{kept_codes}
-use Rattle.frz_check.specs.Verdicts.{IsVerdict}
-use Rattle.frz_check.proofs.Lemmas.{many_codes, one_verdict, verdict_on, verdict_there}
+use Rattle.frz_atlas.specs.Verdict.{Verdict}
+use Rattle.frz_atlas.specs.Verdict.TheVariants as verdicts
+use Rattle.frz_atlas.specs.Kept.{kept_codes}
+use Rattle.frz_atlas.specs.Verdicts.{IsVerdict}
+use Rattle.frz_atlas.proofs.Lemmas.{many_codes, one_verdict, verdict_on, verdict_there}
 use Rattle.frz_atlas.specs.Books.{Back}
 use Rattle.frz_atlas.specs.FileOn.{back_of}
 use Rattle.frz_atlas.specs.Links.{value_over}

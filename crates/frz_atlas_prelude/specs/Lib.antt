@@ -9,3 +9,11 @@ pub mod Costs
 pub mod TableRefusals
 pub mod Over
 pub mod RulesRefusals
+pub use Rattle.frz_atlas.specs.Loading
+pub use Rattle.frz_atlas.specs.Behind
+pub use Rattle.frz_atlas.specs.Causes
+pub use Rattle.frz_atlas.specs.Held
+pub use Rattle.frz_atlas.specs.Reading
+pub use Rattle.frz_atlas.specs.declared.fault.AtlasFault
+pub use Rattle.frz_atlas.specs.declared.reading.LoadedAtlas
+pub use Rattle.frz_atlas.specs.declared.fault.BackFault

@@ -1,6 +1,6 @@
 -- The tables that the names behind another hold, each exact over those before it.
 use Rattle.std.specs.Prelude.{◌≡◌, ◌++◌, List, [], ◌∷◌, ℕ, Option, ⊤}
-use Rattle.frz_check.specs.declared.verdict.Verdict.TheVariants.{Exact}
+use Rattle.frz_atlas.specs.Verdict.TheVariants.{Exact}
 use Rattle.frz_atlas.specs.Books.{Back}
 use Rattle.frz_atlas.specs.FileOn.{back_of}
 use Rattle.frz_atlas.specs.Behind.{IsJudgedOver, TableBytes}

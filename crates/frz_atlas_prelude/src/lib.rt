@@ -10,5 +10,6 @@ mod names;
 
 pub use asked::{Asked, asked_names};
 pub use ending::end_at;
+pub use frz_atlas::{AtlasFault, BackFault, load_atlas};
 pub use given::{Given, names_given};
 pub use names::{MOST_BACKS, build_names, has_twice, is_among, names_with_backs};

@@ -6,9 +6,9 @@ use Rattle.frz_answer.proofs.Lemmas.{refused_lawful}
 use Rattle.frz_commands_atlas.proofs.Lemmas.{build_lawful, check_lawful, each_lawful, report_lawful, size_lawful}
 use Rattle.frz_commands_inquiry.specs.Asking.{ask_words}
 use Rattle.frz_commands_journeys.specs.Journeying.{line_words, play_words}
-use Rattle.frz_commands_premises.proofs.Lemmas.{premises_lawful}
+use Rattle.frz_commands_verdict.proofs.Lemmas.{premises_lawful}
 use Rattle.frz_commands_verdict.proofs.Lemmas.{verdict_lawful}
-use Rattle.frz_commands_why.specs.Asking.{why_words}
+use Rattle.frz_commands_inquiry.specs.Asking.{why_words}
 use Rattle.frz_atlas_top.specs.declared.verb.Verb.{Verb}
 use Rattle.frz_atlas_top.specs.declared.verb.Verb.TheVariants.{Build, Check, Query, Ask, Each, Line, Play, Why, Verdict, Premises, Report, Size}
 use Rattle.frz_program.specs.Commands.{command_of}

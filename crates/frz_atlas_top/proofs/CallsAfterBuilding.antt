@@ -16,7 +16,7 @@ use Rattle.frz_index.specs.Members.{Member}
 use Rattle.frz_check.specs.KeptTables.{KeepsTables}
 use Rattle.frz_commands_atlas.specs.Behind.{backs_in, leans}
 use Rattle.frz_commands_atlas.specs.FileOver.{leans_on}
-use Rattle.frz_backs.specs.Links.{value_over}
+use Rattle.frz_commands_verdict.specs.Links.{value_over}
 use Rattle.frz_commands_ask.specs.Meaning.{TellsBounds}
 use Rattle.frz_answer.specs.declared.status.Status.{Status}
 use Rattle.frz_answer.specs.declared.status.Status.TheVariants.{Success}

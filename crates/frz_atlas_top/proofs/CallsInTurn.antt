@@ -8,7 +8,7 @@ use Rattle.frz_index.specs.Members.{Member}
 use Rattle.frz_store.specs.Bytes.{HoldsBytes}
 use Rattle.frz_store.specs.Files.{Files}
 use Rattle.frz_table.specs.Opening.{Contents}
-use Rattle.frz_backs.specs.Links.{backs_of, value_over}
+use Rattle.frz_commands_verdict.specs.Links.{backs_of, value_over}
 use Rattle.frz_commands_atlas.specs.Behind.{leans}
 use Rattle.frz_answer.specs.declared.status.Status.{Status}
 use Rattle.frz_answer.specs.declared.status.Status.TheVariants.{Success, Words, Fen, Outside}

@@ -10,7 +10,7 @@ use Rattle.frz_table.specs.Opening.{Contents, opened, table_format}
 use Rattle.frz_check.specs.KeptTables.{KeepsTables}
 use Rattle.frz_check.proofs.Lemmas as files
 use Rattle.frz_check.proofs.Lemmas.{HoldsTables, both_tables}
-use Rattle.frz_backs.specs.Links.{backs_of, value_over}
+use Rattle.frz_commands_verdict.specs.Links.{backs_of, value_over}
 use Rattle.frz_commands_ask.specs.AskedFiles.{OpensAsked}
 use Rattle.frz_commands_atlas.specs.Behind.{kind_of, leans}
 use Rattle.frz_commands_atlas.proofs.Lemmas.{as_own, of_own}

@@ -8,7 +8,7 @@ use Rattle.frz_store.specs.Bytes.{HoldsBytes}
 use Rattle.frz_store.specs.Files.{Files}
 use Rattle.frz_commands_atlas.specs.Behind.{backs_in, leans}
 use Rattle.frz_commands_atlas.specs.FileOver.{leans_on}
-use Rattle.frz_backs.specs.Links.{backs_of, value_over}
+use Rattle.frz_commands_verdict.specs.Links.{backs_of, value_over}
 use Rattle.frz_answer.specs.declared.status.Status.TheVariants.{Success}
 use Rattle.frz_answer.specs.Answers.{Answer}
 use Rattle.frz_commands_ask.specs.Meaning.{TellsBounds}

@@ -11,9 +11,9 @@ use Rattle.frz_commands_atlas.specs.Reporting.{report_words}
 use Rattle.frz_commands_atlas.specs.Sizing.{size_words}
 use Rattle.frz_commands_inquiry.specs.Asking.{ask_words}
 use Rattle.frz_commands_journeys.specs.Journeying.{line_words, play_words}
-use Rattle.frz_commands_premises.specs.Premising.{premises_words}
+use Rattle.frz_commands_verdict.specs.Premising.{premises_words}
 use Rattle.frz_commands_verdict.specs.Verdicting.{verdict_words}
-use Rattle.frz_commands_why.specs.Asking.{why_words}
+use Rattle.frz_commands_inquiry.specs.Asking.{why_words}
 use Rattle.frz_program.specs.Commands.{command_of}
 use Rattle.frz_atlas_top.specs.declared.verb.Verb.{Verb}
 use Rattle.frz_atlas_top.specs.declared.verb.Verb.TheVariants.{Build, Check, Query, Ask, Each, Line, Play, Why, Verdict, Premises, Report, Size}

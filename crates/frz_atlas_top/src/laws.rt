@@ -7,8 +7,8 @@ ghost use Rattle.frz_atlas_top.specs.Commands.{job_of};
 pub mod calls;
 
 use frz_commands_inquiry::laws::one_ask_answer;
+use frz_commands_inquiry::why_lawful;
 use frz_commands_journeys::laws::{one_line_answer, one_play_answer};
-use frz_commands_why::laws::why_lawful;
 
 /// For all words, the call has exactly one answer over any files and any input. Over files of
 /// bytes, that answer means what its command promises.

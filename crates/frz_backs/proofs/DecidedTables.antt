@@ -9,7 +9,7 @@ use Rattle.frz_sets.specs.Views.{RuleLines}
 use Rattle.frz_index.specs.Members.{Member, Num}
 use Rattle.frz_index.specs.Membership.{is_member}
 use Rattle.frz_index.proofs.Lemmas.{member_of}
-use Rattle.frz_game.specs.ExactTables.{AreDecidedOutside, is_decided}
+use Rattle.frz_chain.specs.ExactTables.{AreDecidedOutside, is_decided}
 use Rattle.frz_chain.specs.Books.{back_with, or_else, told_at}
 use Rattle.frz_chain.specs.PairValues.{pair_value}
 use Rattle.frz_chain.proofs.Lemmas.{back_decides, first_decides}

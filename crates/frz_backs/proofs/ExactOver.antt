@@ -10,8 +10,8 @@ use Rattle.frz_sets.specs.declared.exit.Value.{Value}
 use Rattle.frz_sets.specs.declared.exit.Value.TheVariants.{WhiteWins, BlackWins, Draw, WhiteHolds, BlackHolds, Unknown, WhiteWinsIn, BlackWinsIn}
 use Rattle.frz_sets.specs.Views.{RuleLines}
 use Rattle.frz_index.specs.Members.{Member, Num}
-use Rattle.frz_game.specs.Bounds.{IsTableOf}
-use Rattle.frz_game.specs.Values.{IsTrueValue}
+use Rattle.frz_chain.specs.Bounds.{IsTableOf}
+use Rattle.frz_chain.specs.Values.{IsTrueValue}
 use Rattle.frz_chain.specs.PairValues.{pair_value}
 use Rattle.frz_chain.proofs.Lemmas.{holds_of_pair_value}
 use Rattle.frz_backs.specs.declared.counts.Counts.{Counts}

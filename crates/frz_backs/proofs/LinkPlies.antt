@@ -6,7 +6,7 @@ use Rattle.frz_board.specs.declared.man.Colour.{Colour}
 use Rattle.frz_sets.specs.Views.{RuleLines}
 use Rattle.frz_arena.specs.Chess.{mate_alone}
 use Rattle.frz_arena.proofs.Lemmas.{forces_later}
-use Rattle.frz_game.specs.Games.{chess}
+use Rattle.frz_chain.specs.Games.{chess}
 use Rattle.frz_chain.specs.Books as chain
 use Rattle.frz_chain.proofs.Lemmas.{forced_later, win_forced}
 use Rattle.frz_backs.specs.Books.{Back}

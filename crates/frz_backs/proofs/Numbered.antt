@@ -10,7 +10,7 @@ use Rattle.frz_sets.specs.Views.{RuleLines}
 use Rattle.frz_arena.specs.declared.class.Class.TheVariants.{Good}
 use Rattle.frz_arena.specs.Exits.{AllNumbered, IsExit}
 use Rattle.frz_exits.specs.Values.{class_of, is_numbered}
-use Rattle.frz_game.specs.Games.{game_of}
+use Rattle.frz_chain.specs.Games.{game_of}
 use Rattle.frz_index.specs.Membership.{number_of}
 use Rattle.frz_chain.proofs.Lemmas.{holds_of_pair_value}
 use Rattle.frz_backs.specs.declared.counts.Counts.{Counts}

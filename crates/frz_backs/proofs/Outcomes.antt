@@ -24,10 +24,10 @@ use Rattle.frz_arena.specs.WholeTruth.{CanForceMate, IsDecided, IsFailure, Losse
 use Rattle.frz_arena.proofs.Lemmas.{as_failure, codes_differ, decided_losses, decided_wins, exact_failure, exact_hold, exact_win, one_bound, win_and_failure, win_of}
 use Rattle.frz_graph.specs.Forbidding.{covers, is_forbidden}
 use Rattle.frz_exits.specs.Values.{class_of}
-use Rattle.frz_game.specs.Bounds.{IsTableOf}
-use Rattle.frz_game.specs.ExactTables.{AreDecidedOutside, HasExactOutcomes, HasNoForbid, is_decided}
-use Rattle.frz_game.specs.Games.{arena_by, chess, game_of}
-use Rattle.frz_game.proofs.Lemmas.{stored_bound, true_exits, win_code}
+use Rattle.frz_chain.specs.Bounds.{IsTableOf}
+use Rattle.frz_chain.specs.ExactTables.{AreDecidedOutside, HasExactOutcomes, HasNoForbid, is_decided}
+use Rattle.frz_chain.specs.Games.{arena_by, chess, game_of}
+use Rattle.frz_chain.proofs.Lemmas.{stored_bound, true_exits, win_code}
 use Rattle.frz_backs.specs.ExactOver.{AreTrueOutcomes, outcome_of}
 use Rattle.frz_backs.proofs.Numbered.{same_exit}
 

@@ -14,7 +14,7 @@ use Rattle.frz_sets.specs.Sound.{IsSound}
 use Rattle.frz_arena.specs.Codes.{is_win}
 use Rattle.frz_exits.specs.Values.{lag_of}
 use Rattle.frz_exits.proofs.Lemmas.{small_values}
-use Rattle.frz_game.specs.SmallLags.{HasSmallLags}
+use Rattle.frz_chain.specs.SmallLags.{HasSmallLags}
 use Rattle.frz_index.specs.Membership.{number_of}
 use Rattle.frz_chain.proofs.Lemmas.{holds_of_pair_value}
 use Rattle.frz_backs.specs.declared.counts.Counts.{Counts}

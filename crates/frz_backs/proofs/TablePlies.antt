@@ -16,8 +16,8 @@ use Rattle.frz_arena.specs.Exits.{AllNumbered}
 use Rattle.frz_arena.proofs.Lemmas.{forces_later}
 use Rattle.frz_exits.specs.Books.{value_by}
 use Rattle.frz_exits.specs.Values.{class_of, lag_of}
-use Rattle.frz_game.specs.Games.{chess, game_of}
-use Rattle.frz_game.specs.Values.{AreTrueExits}
+use Rattle.frz_chain.specs.Games.{chess, game_of}
+use Rattle.frz_chain.specs.Values.{AreTrueExits}
 use Rattle.frz_chain.specs.Books as chain
 use Rattle.frz_chain.specs.ChainPlies as chains
 use Rattle.frz_chain.specs.PairValues.{pair_value}

@@ -11,7 +11,7 @@ use Rattle.frz_index.proofs.Lemmas.{member_of, number_missing, number_there, of_
 use Rattle.frz_board.specs.declared.man.Colour.{Colour}
 use Rattle.frz_board.specs.declared.man.Colour.TheVariants.{White, Black}
 use Rattle.frz_exits.specs.Values.{class_of}
-use Rattle.frz_game.specs.ExactTables.{is_decided}
+use Rattle.frz_chain.specs.ExactTables.{is_decided}
 use Rattle.frz_chain.specs.Books.{or_else}
 use Rattle.frz_backs.specs.declared.counts.Counts.{Counts}
 use Rattle.frz_backs.specs.Books.{Back}

@@ -2,8 +2,8 @@
 use Rattle.std.proofs.Common.{ℕ, List}
 use Rattle.frz_board.specs.declared.man.Colour.{Colour}
 use Rattle.frz_sets.specs.Views.{RuleLines}
-use Rattle.frz_game.specs.Bounds.{IsTableOf}
-use Rattle.frz_game.specs.Values.{AreTrueExits}
+use Rattle.frz_chain.specs.Bounds.{IsTableOf}
+use Rattle.frz_chain.specs.Values.{AreTrueExits}
 use Rattle.frz_chain.specs.Transfer.{TellsChess}
 use Rattle.frz_chain.proofs.Lemmas.{true_tells}
 use Rattle.frz_backs.specs.Links.{AreExact, AreTrueLines, Link, backs_of}

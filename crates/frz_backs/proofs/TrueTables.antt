@@ -17,10 +17,10 @@ use Rattle.frz_arena.specs.Chess.{ForcesMate}
 use Rattle.frz_arena.specs.Codes.{code_of, is_win}
 use Rattle.frz_arena.specs.Exits.{AllNumbered}
 use Rattle.frz_index.specs.Members.{Member, Num}
-use Rattle.frz_game.specs.Bounds.{IsTableOf}
-use Rattle.frz_game.specs.Games.{chess, game_of}
-use Rattle.frz_game.specs.Values.{AreTrueExits, IsTrueValue}
-use Rattle.frz_game.proofs.Lemmas.{stored_bound, win_code}
+use Rattle.frz_chain.specs.Bounds.{IsTableOf}
+use Rattle.frz_chain.specs.Games.{chess, game_of}
+use Rattle.frz_chain.specs.Values.{AreTrueExits, IsTrueValue}
+use Rattle.frz_chain.proofs.Lemmas.{stored_bound, win_code}
 use Rattle.frz_chain.specs.Transfer.{TellsChess}
 use Rattle.frz_chain.proofs.Lemmas.{holds_of_pair_value, true_tells}
 use Rattle.frz_backs.specs.declared.counts.Counts.{Counts}

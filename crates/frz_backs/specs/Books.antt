@@ -3,6 +3,7 @@ use Rattle.std.specs.Prelude.{ℕ, List}
 use Rattle.frz_board.specs.declared.man.Colour.{Colour}
 use Rattle.frz_board.specs.declared.man.Colour.TheVariants.{White, Black}
 use Rattle.frz_sets.specs.Views.{ExitLine, GroupLine, RuleLines}
+pub use Rattle.frz_chain.specs.Books.{or_else}
 
 -- the groups of its set, the exit lines of its text, and the codes of both sides
 pub record Back : Type 0 where

@@ -6,8 +6,8 @@ use Rattle.frz_sets.specs.declared.exit.Value.TheVariants.{Unknown}
 use Rattle.frz_sets.specs.Views.{RuleLines}
 use Rattle.frz_index.specs.Members.{Member}
 use Rattle.frz_arena.specs.Exits.{IsExit}
-use Rattle.frz_game.specs.ExactTables.{HasExactOutcomes, is_decided}
-use Rattle.frz_game.specs.Games.{game_of}
+use Rattle.frz_chain.specs.ExactTables.{HasExactOutcomes, is_decided}
+use Rattle.frz_chain.specs.Games.{game_of}
 use Rattle.frz_backs.specs.Links.{Link, backs_of}
 use Rattle.frz_backs.specs.Values.{atlas_value, own_value}
 

@@ -5,8 +5,8 @@ use Rattle.frz_board.specs.declared.man.Colour.{Colour}
 use Rattle.frz_sets.specs.declared.exit.Value.{Value}
 use Rattle.frz_sets.specs.declared.exit.Value.TheVariants.{WhiteWins, BlackWins, WhiteWinsIn, BlackWinsIn}
 use Rattle.frz_sets.specs.Views.{RuleLines}
-use Rattle.frz_game.specs.ExactTables.{HasExactOutcomes, HasNoForbid}
-use Rattle.frz_game.specs.Values.{AreTrueExits}
+use Rattle.frz_chain.specs.ExactTables.{HasExactOutcomes, HasNoForbid}
+use Rattle.frz_chain.specs.Values.{AreTrueExits}
 use Rattle.frz_backs.specs.Decided.{AreLinesOrTables, HasBothOutcomes}
 use Rattle.frz_backs.specs.Links.{Link, backs_of}
 use Rattle.frz_backs.specs.Values.{own_value}

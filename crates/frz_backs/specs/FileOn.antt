@@ -4,9 +4,9 @@ use Rattle.frz_board.specs.Boards.{Board}
 use Rattle.frz_board.specs.declared.man.Colour.TheVariants.{White, Black}
 use Rattle.frz_sets.specs.declared.exit.Value.{Value}
 use Rattle.frz_sets.specs.Views.{RuleLines}
-use Rattle.frz_game.specs.Bounds.{IsTableOf}
-use Rattle.frz_table.specs.Opening.{Contents}
-use Rattle.frz_build.specs.Kept.{kept_codes}
+use Rattle.frz_chain.specs.Bounds.{IsTableOf}
+use Rattle.frz_chain.specs.Opening.{Contents}
+use Rattle.frz_chain.specs.Kept.{kept_codes}
 use Rattle.frz_chain.specs.declared.back.BackTable.{BackTable}
 use Rattle.frz_backs.specs.Books.{Back, back_with}
 

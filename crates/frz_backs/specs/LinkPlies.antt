@@ -7,9 +7,9 @@ use Rattle.frz_arena.specs.declared.bound.Bound.TheVariants.{Wins}
 use Rattle.frz_arena.specs.Chess.{ForcesMate}
 use Rattle.frz_arena.specs.Codes.{is_win}
 use Rattle.frz_arena.specs.Exits.{AllNumbered}
-use Rattle.frz_game.specs.Bounds.{IsBoundAt}
-use Rattle.frz_game.specs.Games.{chess, game_of}
-use Rattle.frz_game.specs.Values.{AreTrueExits}
+use Rattle.frz_chain.specs.Bounds.{IsBoundAt}
+use Rattle.frz_chain.specs.Games.{chess, game_of}
+use Rattle.frz_chain.specs.Values.{AreTrueExits}
 use Rattle.frz_backs.specs.Books.{Back, back_codes}
 use Rattle.frz_backs.specs.Counts.{count_for}
 use Rattle.frz_backs.specs.Links.{AreTrueLines, Link, backs_of, own_over}

@@ -4,7 +4,7 @@ use Rattle.frz_board.specs.Boards.{Board}
 use Rattle.frz_sets.specs.declared.exit.Value.{Value}
 use Rattle.frz_sets.specs.Views.{RuleLines}
 use Rattle.frz_exits.specs.Books.{value_by}
-use Rattle.frz_game.specs.Values.{AreTrueExits}
+use Rattle.frz_chain.specs.Values.{AreTrueExits}
 use Rattle.frz_backs.specs.Books.{Back}
 use Rattle.frz_backs.specs.FileOn.{IsExactBack}
 use Rattle.frz_backs.specs.Values.{atlas_value, own_value}

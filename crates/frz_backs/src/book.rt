@@ -3,7 +3,7 @@
 ghost use Rattle.std.specs.Prelude.{◌≡◌, map};
 ghost use Rattle.frz_exits.specs.Books.{first_value as line_value};
 ghost use Rattle.frz_fide.specs.Valid.{IsValid};
-ghost use Rattle.frz_game.specs.SmallLags.{HasSmallLags};
+ghost use Rattle.frz_chain.specs.SmallLags.{HasSmallLags};
 ghost use Rattle.frz_sets.specs.Sound.{IsSound};
 ghost use Rattle.frz_backs.specs.Behind.{lines_behind as lines_after};
 ghost use Rattle.frz_backs.specs.Counts.{counts_of};

@@ -12,11 +12,10 @@ ghost use Rattle.frz_backs.specs.Lines as words;
 ghost use Rattle.frz_backs.specs.Loaded.{leans_as};
 
 use crate::behind::{end_of, value_of};
-use frz_chain::BackTable;
+use frz_chain::{BackTable, FileKind};
 use frz_exits::{fitting_line, is_unknown};
 use frz_fide::Bitboards;
 use frz_sets::{Exit, Rules};
-use frz_table::FileKind;
 
 /// Does the table lean on those before it?
 pub fn leans(back: &BackTable) -> bool

@@ -10,3 +10,4 @@ pub use Rattle.frz_chain.proofs.Told.{holds_of_either_value, number_below, numbe
 pub use Rattle.frz_chain.proofs.TrueValues.{back_true, chained_true}
 pub use Rattle.frz_chain.proofs.Transfer.{tells_chess, true_tells}
 pub use Rattle.frz_build.proofs.Lemmas.{builds_after, costs_added, costs_kept, quiet_same, still_held}
+pub use Rattle.frz_game.proofs.Lemmas.{stored_bound, true_exits, win_code}

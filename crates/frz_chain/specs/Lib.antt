@@ -10,3 +10,10 @@ pub mod ChainPlies
 pub mod DecidedBacks
 pub use Rattle.frz_build.specs.Building
 pub use Rattle.frz_table.specs.declared.kind.FileKind
+pub use Rattle.frz_build.specs.Kept
+pub use Rattle.frz_game.specs.SmallLags
+pub use Rattle.frz_game.specs.Bounds
+pub use Rattle.frz_game.specs.Games
+pub use Rattle.frz_game.specs.ExactTables
+pub use Rattle.frz_game.specs.Values
+pub use Rattle.frz_table.specs.Opening

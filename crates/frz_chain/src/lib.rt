@@ -17,5 +17,6 @@ pub use building::{ReadRules, build_chain, build_over};
 pub use checking::{ChainVerdict, check_chain};
 pub use fault::ChainFault;
 pub use frz_build::{NewTable, build_ruled};
+pub use frz_table::FileKind;
 pub use opening::open_back;
 pub use pair::pair_value;

@@ -15,9 +15,9 @@ use Rattle.frz_check.specs.KeptTables.{KeepsTables}
 use Rattle.frz_check.proofs.Lemmas.{bound_kept}
 use Rattle.frz_bound_lines.specs.BoundLines.{kept_words}
 use Rattle.frz_bound_lines.proofs.BoundLines.{kept_bound}
-use Rattle.frz_backs.specs.Books.{Back}
-use Rattle.frz_backs.specs.Codes.{codes_at, codes_of}
-use Rattle.frz_backs.specs.FileOn.{back_of}
+use Rattle.frz_atlas.specs.Books.{Back}
+use Rattle.frz_atlas.specs.Codes.{codes_at, codes_of}
+use Rattle.frz_atlas.specs.FileOn.{back_of}
 use Rattle.frz_atlas.specs.Behind.{AreJudged, AreJudgedOver, TableBytes, backs_in, leans}
 use Rattle.frz_commands_atlas.specs.Each.{found_over}
 use Rattle.frz_commands_atlas.specs.EachMeans.{TellsBoundsBehind}

@@ -13,7 +13,7 @@ use Rattle.frz_store.specs.Writes.{Wrote, WrotePart}
 use Rattle.frz_store.specs.declared.outside.StoreFault.TheVariants as store_faults
 use Rattle.frz_store.proofs.Lemmas.{later_store}
 use Rattle.frz_table.proofs.Lemmas.{fine_after, quiet_after}
-use Rattle.frz_backs.specs.Building.{writing_calls}
+use Rattle.frz_atlas.specs.Building.{writing_calls}
 use Rattle.frz_answer.specs.declared.end.End.{End}
 use Rattle.frz_answer.specs.declared.status.Status.TheVariants as statuses
 use Rattle.frz_answer.specs.Answers.{says}

@@ -9,8 +9,8 @@ use Rattle.frz_sets.specs.Views.{RuleLines}
 use Rattle.frz_store.specs.Files.{Files, put}
 use Rattle.frz_table.specs.Layout.{kind_by, magic_of}
 use Rattle.frz_check.proofs.Lemmas.{file_there, one_file}
-use Rattle.frz_backs.specs.Links.{value_over}
-use Rattle.frz_backs.proofs.Lemmas.{over_small}
+use Rattle.frz_atlas.specs.Links.{value_over}
+use Rattle.frz_atlas.proofs.Lemmas.{over_small}
 use Rattle.frz_answer.specs.declared.status.Status.TheVariants.{Success}
 use Rattle.frz_answer.specs.Answers.{Answer, says, SomeAnswer}
 use Rattle.frz_answer.specs.Lawful.{HasOneAnswer}

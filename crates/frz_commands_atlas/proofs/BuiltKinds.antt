@@ -7,8 +7,8 @@ use Rattle.frz_table.specs.Opening.{Contents, table_format}
 use Rattle.frz_table.proofs.Lemmas.{belongs}
 use Rattle.frz_check.specs.OneFile.{IsOneFile}
 use Rattle.frz_check.proofs.Lemmas.{one_file_opens}
-use Rattle.frz_backs.specs.Books.{Back}
-use Rattle.frz_backs.specs.Links.{value_over}
+use Rattle.frz_atlas.specs.Books.{Back}
+use Rattle.frz_atlas.specs.Links.{value_over}
 use Rattle.frz_atlas.specs.Behind.{leans}
 use Rattle.frz_atlas.specs.FileOver.{IsFileOver, IsOwnFile, leans_on}
 use Rattle.frz_atlas.proofs.Lemmas.{leans_by}

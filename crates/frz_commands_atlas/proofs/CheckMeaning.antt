@@ -20,9 +20,9 @@ use Rattle.frz_check.specs.declared.verdict.Verdict.{Verdict}
 use Rattle.frz_check.specs.declared.verdict.Verdict.TheVariants as verdicts
 use Rattle.frz_check.specs.Kept.{kept_codes}
 use Rattle.frz_check.proofs.Lemmas.{one_file_holds, one_file_opens, tables_are_one}
-use Rattle.frz_backs.specs.Books.{Back}
-use Rattle.frz_backs.specs.Links.{AreExact, AreTrueLines, Link, backs_of, own_over, value_over}
-use Rattle.frz_backs.proofs.Lemmas.{over_small, exits_over_true, mates_within, outcomes_over, tables_decide}
+use Rattle.frz_atlas.specs.Books.{Back}
+use Rattle.frz_atlas.specs.Links.{AreExact, AreTrueLines, Link, backs_of, own_over, value_over}
+use Rattle.frz_atlas.proofs.Lemmas.{over_small, exits_over_true, mates_within, outcomes_over, tables_decide}
 use Rattle.frz_answer.specs.declared.status.Status.{Status}
 use Rattle.frz_answer.specs.declared.status.Status.TheVariants as statuses
 use Rattle.frz_answer.specs.Answers.{Answer, says}

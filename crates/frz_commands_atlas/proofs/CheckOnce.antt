@@ -13,7 +13,7 @@ use Rattle.frz_check.specs.declared.verdict.Verdict.TheVariants as verdicts
 use Rattle.frz_check.specs.Kept.{kept_codes}
 use Rattle.frz_check.specs.Verdicts.{IsVerdict}
 use Rattle.frz_check.proofs.Lemmas.{many_codes, one_verdict, verdict_there}
-use Rattle.frz_backs.specs.Links.{value_over}
+use Rattle.frz_atlas.specs.Links.{value_over}
 use Rattle.frz_answer.specs.Answers.{Answer, says, SomeAnswer}
 use Rattle.frz_answer.specs.Lawful.{HasOneAnswer}
 use Rattle.frz_prelude.specs.Refusals.{table_status}

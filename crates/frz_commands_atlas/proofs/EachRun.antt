@@ -19,12 +19,12 @@ use Rattle.frz_table.specs.Possible.{MayHold}
 use Rattle.frz_table.specs.Tables.{Carries, Table}
 use Rattle.frz_table.proofs.Lemmas.{fine_after}
 use Rattle.frz_check.specs.Kept.{kept_codes}
-use Rattle.frz_backs.specs.BackTable.{BackTable}
-use Rattle.frz_backs.specs.Books.{Back}
-use Rattle.frz_backs.specs.FileOn.{loaded_back}
-use Rattle.frz_backs.specs.Links.{value_over}
-use Rattle.frz_backs.specs.Loaded.{leans_as, link_loaded}
-use Rattle.frz_backs.proofs.Lemmas.{loaded_backs}
+use Rattle.frz_atlas.specs.BackTable.{BackTable}
+use Rattle.frz_atlas.specs.Books.{Back}
+use Rattle.frz_atlas.specs.FileOn.{loaded_back}
+use Rattle.frz_atlas.specs.Links.{value_over}
+use Rattle.frz_atlas.specs.Loaded.{leans_as, link_loaded}
+use Rattle.frz_atlas.proofs.Lemmas.{loaded_backs}
 use Rattle.frz_atlas.specs.Behind.{TableBytes, backs_in, leans}
 use Rattle.frz_atlas.specs.Causes.{HasAtlasCause}
 use Rattle.frz_atlas.specs.Held.{all_held}

@@ -13,7 +13,7 @@ use Rattle.frz_table.specs.Possible.{MayHold}
 use Rattle.frz_table.specs.Tables.{Carries, IsFileOf, Table, table_size}
 use Rattle.frz_table.proofs.Lemmas.{belongs, file_bytes, magic_bytes, magic_long, opens_by, text_bytes, written_belongs, written_is_loaded}
 use Rattle.frz_check.specs.Kept.{kept_codes}
-use Rattle.frz_backs.specs.Loaded.{leans_as}
+use Rattle.frz_atlas.specs.Loaded.{leans_as}
 use Rattle.frz_atlas.specs.Behind.{kind_of, leans}
 use Rattle.frz_atlas.specs.Opening.{IsOwnKind, MayOpenOwn}
 use Rattle.frz_atlas.proofs.Lemmas.{leans_by, opens_own}

@@ -14,11 +14,11 @@ use Rattle.frz_table.specs.declared.fault.TableFault.{TableFault}
 use Rattle.frz_table.specs.Opening.{Contents, contents_of, opened, own_format}
 use Rattle.frz_table.specs.Tables.{table_size}
 use Rattle.frz_check.specs.Kept.{kept_codes, opened_size}
-use Rattle.frz_backs.specs.Books.{Back}
-use Rattle.frz_backs.specs.FileOn.{loaded_back}
-use Rattle.frz_backs.specs.Links.{Link, value_over}
-use Rattle.frz_backs.specs.Loaded.{leans_as, link_loaded}
-use Rattle.frz_backs.proofs.Lemmas.{loaded_backs}
+use Rattle.frz_atlas.specs.Books.{Back}
+use Rattle.frz_atlas.specs.FileOn.{loaded_back}
+use Rattle.frz_atlas.specs.Links.{Link, value_over}
+use Rattle.frz_atlas.specs.Loaded.{leans_as, link_loaded}
+use Rattle.frz_atlas.proofs.Lemmas.{loaded_backs}
 use Rattle.frz_atlas.specs.Behind.{TableBytes, backs_in}
 use Rattle.frz_atlas.specs.Causes.{HasAtlasCause}
 use Rattle.frz_atlas.specs.Costs.{size_held}

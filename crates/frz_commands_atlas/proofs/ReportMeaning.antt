@@ -10,10 +10,10 @@ use Rattle.frz_table.specs.Opening.{Contents, opened, own_format}
 use Rattle.frz_table.proofs.Lemmas.{opened_missing}
 use Rattle.frz_check.specs.Kept.{kept_codes}
 use Rattle.frz_check.proofs.Lemmas.{bound_kept}
-use Rattle.frz_backs.specs.Books.{Back}
-use Rattle.frz_backs.specs.Links.{AreTrueLines, own_over, value_over}
-use Rattle.frz_backs.specs.Values.{atlas_value, own_value}
-use Rattle.frz_backs.proofs.Lemmas.{exits_over_true}
+use Rattle.frz_atlas.specs.Books.{Back}
+use Rattle.frz_atlas.specs.Links.{AreTrueLines, own_over, value_over}
+use Rattle.frz_atlas.specs.Values.{atlas_value, own_value}
+use Rattle.frz_atlas.proofs.Lemmas.{exits_over_true}
 use Rattle.frz_atlas.specs.Behind.{AreJudged, TableBytes, backs_in, leans, link_of}
 use Rattle.frz_atlas.specs.Loading.{opened_all}
 use Rattle.frz_atlas.specs.declared.fault.BackFault.TheVariants.{Refused}

@@ -25,9 +25,9 @@ use Rattle.frz_game.proofs.Lemmas.{arms_there}
 use Rattle.frz_store.specs.Files.{Files}
 use Rattle.frz_table.specs.Opening.{Contents, contents_of}
 use Rattle.frz_table.specs.Tables.{Table, table_size}
-use Rattle.frz_backs.specs.Books.{Back}
-use Rattle.frz_backs.specs.Links.{value_over}
-use Rattle.frz_backs.specs.Loaded.{leans_as}
+use Rattle.frz_atlas.specs.Books.{Back}
+use Rattle.frz_atlas.specs.Links.{value_over}
+use Rattle.frz_atlas.specs.Loaded.{leans_as}
 use Rattle.frz_ways.specs.Costs.{arms_reads, next_reads}
 use Rattle.frz_ways.specs.Kept.{told_codes, MayRead}
 use Rattle.frz_prelude.specs.declared.stop.Stop.{Stop}

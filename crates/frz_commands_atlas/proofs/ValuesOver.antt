@@ -6,10 +6,10 @@ use Rattle.frz_sets.specs.Views.{RuleLines}
 use Rattle.frz_exits.specs.Books.{value_by}
 use Rattle.frz_table.specs.declared.kind.FileKind.{FileKind}
 use Rattle.frz_table.specs.declared.kind.FileKind.TheVariants.{Plain, Chained, Atlas}
-use Rattle.frz_backs.specs.Books.{Back}
-use Rattle.frz_backs.specs.Links.{value_over}
-use Rattle.frz_backs.specs.Loaded.{leans_as}
-use Rattle.frz_backs.specs.Values.{atlas_value}
+use Rattle.frz_atlas.specs.Books.{Back}
+use Rattle.frz_atlas.specs.Links.{value_over}
+use Rattle.frz_atlas.specs.Loaded.{leans_as}
+use Rattle.frz_atlas.specs.Values.{atlas_value}
 
 module _ (P : (Board → Value) → Type 0) (kind : FileKind) (r s : RuleLines) (b : List Back) where
   -- by a book of tables, where the kind is one that leans on them

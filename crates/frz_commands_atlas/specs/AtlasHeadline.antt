@@ -14,11 +14,11 @@ use Rattle.frz_sets.specs.Views.{RuleLines}
 use Rattle.frz_store.specs.Files.{Files}
 use Rattle.frz_table.specs.Layout.{codes_at, magic_of}
 use Rattle.frz_table.specs.Tables.{IsTableFile}
-use Rattle.frz_backs.specs.Decided.{AreLinesOrTables, HasBothOutcomes}
-use Rattle.frz_backs.specs.ExactOver.{HasOutcomesOver}
-use Rattle.frz_backs.specs.LinkPlies.{MatesOver}
-use Rattle.frz_backs.specs.Links.{AreExact, AreTrueLines, Link, backs_of, own_over, value_over}
-use Rattle.frz_backs.specs.Values.{atlas_value}
+use Rattle.frz_atlas.specs.Decided.{AreLinesOrTables, HasBothOutcomes}
+use Rattle.frz_atlas.specs.ExactOver.{HasOutcomesOver}
+use Rattle.frz_atlas.specs.LinkPlies.{MatesOver}
+use Rattle.frz_atlas.specs.Links.{AreExact, AreTrueLines, Link, backs_of, own_over, value_over}
+use Rattle.frz_atlas.specs.Values.{atlas_value}
 use Rattle.frz_atlas.specs.Behind.{AreJudged, TableBytes, kind_of, leans, link_of}
 use Rattle.frz_atlas.specs.FileOver.{IsOwnFile}
 use Rattle.frz_atlas.specs.Held.{all_held}

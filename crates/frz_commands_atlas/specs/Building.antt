@@ -13,7 +13,7 @@ use Rattle.frz_prelude.specs.declared.refused.Refused.{Refused}
 use Rattle.frz_sets.specs.Sets.{size_of}
 use Rattle.frz_sets.specs.Views.{RuleLines}
 use Rattle.frz_rules.specs.Text.{rules_of}
-use Rattle.frz_backs.specs.Building.{writing_calls}
+use Rattle.frz_atlas.specs.Building.{writing_calls}
 use Rattle.frz_atlas.specs.Behind.{TableBytes, backs_in}
 use Rattle.frz_atlas.specs.Costs.{bytes_of, calls_of, steps_of}
 use Rattle.frz_atlas.specs.FileOver.{IsFileOver}

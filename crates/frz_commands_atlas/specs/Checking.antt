@@ -8,7 +8,7 @@ use Rattle.frz_check.specs.declared.verdict.Verdict.{Verdict}
 use Rattle.frz_check.specs.declared.verdict.Verdict.TheVariants as verdict
 use Rattle.frz_check.specs.Kept.{kept_codes}
 use Rattle.frz_check.specs.Verdicts.{IsVerdict}
-use Rattle.frz_backs.specs.Links.{value_over}
+use Rattle.frz_atlas.specs.Links.{value_over}
 use Rattle.frz_atlas.specs.Behind.{TableBytes, backs_in, leans}
 use Rattle.frz_atlas.specs.Checking.{sizes_in}
 use Rattle.frz_atlas.specs.Costs.{size_held, steps_of}

@@ -4,8 +4,8 @@ use Rattle.frz_board.specs.Boards.{Board}
 use Rattle.frz_sets.specs.Views.{RuleLines}
 use Rattle.frz_exits.specs.Books.{value_by}
 use Rattle.frz_exits.specs.Values.{is_unknown}
-use Rattle.frz_backs.specs.Books.{Back}
-use Rattle.frz_backs.specs.Codes.{codes_of}
+use Rattle.frz_atlas.specs.Books.{Back}
+use Rattle.frz_atlas.specs.Codes.{codes_of}
 
 -- the place of a table, from 0, with White's code and Black's in it
 abbrev pub Found : Type 0

@@ -10,7 +10,7 @@ use Rattle.frz_table.specs.declared.fault.TableFault.{TableFault}
 use Rattle.frz_table.specs.Opening.{Contents, opened, own_format}
 use Rattle.frz_check.specs.Kept.{kept_codes}
 use Rattle.frz_check.specs.KeptTables.{KeepsBound, KeepsTables}
-use Rattle.frz_backs.specs.Links.{AreTrueLines, own_over, value_over}
+use Rattle.frz_atlas.specs.Links.{AreTrueLines, own_over, value_over}
 use Rattle.frz_atlas.specs.Behind.{AreJudged, TableBytes, backs_in, leans, link_of}
 use Rattle.frz_atlas.specs.Costs.{size_held}
 use Rattle.frz_atlas.specs.Loading.{opened_all}

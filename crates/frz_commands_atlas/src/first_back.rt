@@ -2,11 +2,11 @@
 ghost use Rattle.std.specs.Prelude.{◌≡◌, ◌≤◌, ◌<◌, ◌+◌, length, map, IfSome};
 ghost use Rattle.frz_fide.specs.Valid.{IsValid};
 ghost use Rattle.frz_sets.specs.Sound.{IsSound};
-ghost use Rattle.frz_backs.specs.FileOn.{loaded_back};
+ghost use Rattle.frz_atlas.specs.FileOn.{loaded_back};
 ghost use Rattle.frz_atlas_prelude.specs.declared.names.TheConstants.{MOST_BACKS};
 ghost use Rattle.frz_commands_atlas.specs.FirstBack as words;
 
-use frz_backs::{BackTable, codes_on};
+use frz_atlas::{BackTable, codes_on};
 use frz_exits::{ExitBook, RuleBook, is_unknown};
 use frz_fide::Bitboards;
 use frz_sets::Rules;

@@ -5,9 +5,9 @@ ghost use Rattle.std.specs.String.{string_bytes};
 ghost use Rattle.frz_graph.specs.EntryCodes.{of_side};
 ghost use Rattle.frz_store.specs.Told.{SourceTold, store_of, sink_of};
 ghost use Rattle.frz_table.specs.Tables.{table_size};
-ghost use Rattle.frz_backs.specs.FileOn.{loaded_back};
-ghost use Rattle.frz_backs.specs.Links.{value_over};
-ghost use Rattle.frz_backs.specs.Loaded.{leans_as};
+ghost use Rattle.frz_atlas.specs.FileOn.{loaded_back};
+ghost use Rattle.frz_atlas.specs.Links.{value_over};
+ghost use Rattle.frz_atlas.specs.Loaded.{leans_as};
 ghost use Rattle.frz_answer.specs.World.{world};
 ghost use Rattle.frz_answer.specs.Ends.{Ran};
 ghost use Rattle.frz_atlas_prelude.specs.Names.{has_twice as is_twice};
@@ -17,9 +17,8 @@ ghost use Rattle.frz_commands_atlas.specs.Reporting.{reporting_at, report_words}
 
 use crate::first_exits::write_first_report;
 use frz_answer::{End, refuse};
-use frz_atlas::{LoadedAtlas, load_atlas};
+use frz_atlas::{AtlasBook, BackTable, LoadedAtlas, load_atlas};
 use frz_atlas_prelude::{end_at, names_with_backs};
-use frz_backs::{AtlasBook, BackTable};
 use frz_exits::{ExitBook, RuleBook};
 use frz_game::{Game, Pair};
 use frz_report::{ReportFault, Totals, end_of};

@@ -7,7 +7,7 @@ ghost use Rattle.frz_store.specs.Told.{sink_of};
 ghost use Rattle.frz_answer.specs.Texts.{WroteText};
 ghost use Rattle.frz_ways.specs.Texts.{value_text};
 ghost use Rattle.frz_sets.specs.Sound.{IsSound};
-ghost use Rattle.frz_backs.specs.FileOn.{loaded_back};
+ghost use Rattle.frz_atlas.specs.FileOn.{loaded_back};
 ghost use Rattle.frz_atlas_prelude.specs.BackLines.{back_word};
 ghost use Rattle.frz_atlas_prelude.specs.declared.names.TheConstants.{MOST_BACKS};
 ghost use Rattle.frz_commands_atlas.specs.FirstBack.{found_behind};

@@ -18,7 +18,7 @@ use Rattle.frz_commands_inquiry.specs.declared.inquiring.TheConstants.{MOST_LINE
 use Rattle.frz_board.specs.declared.man.Colour.TheVariants.{White, Black}
 use Rattle.frz_index.proofs.Lemmas.{number_there, of_member}
 use Rattle.frz_check.proofs.Lemmas.{bound_kept}
-use Rattle.frz_backs.specs.Codes.{codes_at}
+use Rattle.frz_atlas.specs.Codes.{codes_at}
 use Rattle.frz_commands_why.specs.WhyOf.{value_behind}
 use Rattle.frz_commands_inquiry.specs.AskOf.{IsAskedAt, IsAskedOver, answer_of, link_in}
 use Rattle.frz_commands_inquiry.specs.Inquiries.{Inquiry, halt_status, inquiry}

@@ -9,12 +9,12 @@ use Rattle.frz_store.specs.Bytes.{MayBeHeld}
 use Rattle.frz_store.specs.Files.{Files}
 use Rattle.frz_store.specs.Told.{StoreTold, SourceTold, SinkTold, StoreFine, StoreQuiet}
 use Rattle.frz_table.specs.Opening.{Contents, contents_of}
-use Rattle.frz_backs.specs.Books.{Back}
-use Rattle.frz_backs.specs.BackTable.{BackTable}
-use Rattle.frz_backs.specs.FileOn.{loaded_back}
-use Rattle.frz_backs.specs.Links.{Link}
-use Rattle.frz_backs.specs.Loaded.{link_loaded}
-use Rattle.frz_backs.proofs.Lemmas.{loaded_backs}
+use Rattle.frz_atlas.specs.Books.{Back}
+use Rattle.frz_atlas.specs.BackTable.{BackTable}
+use Rattle.frz_atlas.specs.FileOn.{loaded_back}
+use Rattle.frz_atlas.specs.Links.{Link}
+use Rattle.frz_atlas.specs.Loaded.{link_loaded}
+use Rattle.frz_atlas.proofs.Lemmas.{loaded_backs}
 use Rattle.frz_atlas.specs.Behind.{TableBytes, backs_in, link_of}
 use Rattle.frz_atlas.specs.Held.{all_held}
 use Rattle.frz_atlas.specs.Reading.{LoadsAtlas}

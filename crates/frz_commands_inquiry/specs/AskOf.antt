@@ -2,8 +2,8 @@
 use Rattle.std.specs.Prelude.{◌≡◌, ℕ, List, ◌++◌}
 use Rattle.frz_store.specs.Files.{Files}
 use Rattle.frz_table.specs.Opening.{Contents}
-use Rattle.frz_backs.specs.Books.{Back}
-use Rattle.frz_backs.specs.Links.{Link}
+use Rattle.frz_atlas.specs.Books.{Back}
+use Rattle.frz_atlas.specs.Links.{Link}
 use Rattle.frz_atlas.specs.Behind.{TableBytes, backs_in, link_of}
 use Rattle.frz_answer.specs.Answers.{Answer}
 use Rattle.frz_atlas_prelude.specs.Over.{IsAnswerOver}

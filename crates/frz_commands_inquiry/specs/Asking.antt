@@ -7,6 +7,7 @@ use Rattle.frz_atlas_prelude.specs.Costs.{loading_bytes, loading_calls}
 use Rattle.frz_atlas_prelude.specs.Names.{Names, file_names_of, has_twice}
 use Rattle.frz_commands_inquiry.specs.AskOf.{IsAskedAt}
 use Rattle.frz_commands_inquiry.specs.Meaning.{MeansAsk}
+pub use Rattle.frz_commands_why.specs.Asking.{why_words}
 
 -- what opening and loading TABLE and the BACKs costs; no line of the input costs more
 abbrev pub ask_costs : Option (List ℕ) → List (Option (List ℕ)) → Costs

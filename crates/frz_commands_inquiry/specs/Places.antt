@@ -9,10 +9,10 @@ use Rattle.frz_sets.specs.declared.exit.Value.{Value}
 use Rattle.frz_sets.specs.declared.exit.Value.TheVariants.{Unknown}
 use Rattle.frz_exits.specs.Books.{value_by}
 use Rattle.frz_arena.specs.Codes.{is_failure}
-use Rattle.frz_backs.specs.Behind.{value_behind}
-use Rattle.frz_backs.specs.Books.{Back}
-use Rattle.frz_backs.specs.Codes.{codes_of}
-use Rattle.frz_backs.specs.Links.{Link}
+use Rattle.frz_atlas.specs.Behind.{value_behind}
+use Rattle.frz_atlas.specs.Books.{Back}
+use Rattle.frz_atlas.specs.Codes.{codes_of}
+use Rattle.frz_atlas.specs.Links.{Link}
 use Rattle.frz_bound_lines.specs.BoundLines.{kept_words, side_name}
 use Rattle.frz_prelude.specs.Causes.{fen_cause}
 use Rattle.frz_atlas_prelude.specs.BackLines.{back_word}

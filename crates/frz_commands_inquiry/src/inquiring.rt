@@ -3,8 +3,8 @@ ghost use Rattle.std.specs.Prelude.{◌≡◌, ◌<◌, ◌≤◌, length, map, 
 ghost use Rattle.frz_store.specs.Outside.{HasCause};
 ghost use Rattle.frz_store.specs.Told.{source_of, sink_of};
 ghost use Rattle.frz_ways.specs.Hearing.{HasEnded};
-ghost use Rattle.frz_backs.specs.FileOn.{loaded_back};
-ghost use Rattle.frz_backs.specs.Loaded.{link_loaded};
+ghost use Rattle.frz_atlas.specs.FileOn.{loaded_back};
+ghost use Rattle.frz_atlas.specs.Loaded.{link_loaded};
 ghost use Rattle.frz_atlas_prelude.specs.declared.names.TheConstants.{MOST_BACKS};
 ghost use Rattle.frz_commands_inquiry.specs.Ending.{EndsInquiry, RunsInquiry};
 ghost use Rattle.frz_commands_inquiry.specs.Inquired.{Inquired, InputCause};
@@ -15,7 +15,7 @@ ghost use Rattle.frz_commands_inquiry.specs.Places.{reply_to};
 use crate::input_line::{LineBytes, NextLine, read_line};
 use crate::places::write_reply;
 use frz_answer::{End, Fault, Status, say};
-use frz_backs::BackTable;
+use frz_atlas::BackTable;
 use frz_store::{Failed, Sink, Source};
 
 /// The most lines of the input that are answered.

@@ -10,5 +10,7 @@ mod places;
 mod trimming;
 
 pub use asking::run_ask;
+pub use frz_commands_why::laws::why_lawful;
+pub use frz_commands_why::run_why;
 pub use input_line::MOST_LENGTH;
 pub use inquiring::MOST_LINES;

@@ -4,12 +4,12 @@ use Rattle.frz_board.specs.Boards.{Board}
 use Rattle.frz_index.specs.Members.{Member}
 use Rattle.frz_store.specs.Told.{SinkTold, SourceTold, StoreFine, StoreQuiet, StoreTold}
 use Rattle.frz_table.specs.Opening.{contents_of}
-use Rattle.frz_backs.specs.BackTable.{BackTable}
-use Rattle.frz_backs.specs.Loaded.{link_loaded}
-use Rattle.frz_atlas.specs.Behind.{TableBytes, link_of}
-use Rattle.frz_atlas.specs.Held.{all_held}
-use Rattle.frz_atlas.specs.Reading.{LoadsAtlas}
-use Rattle.frz_atlas.specs.declared.reading.LoadedAtlas.{LoadedAtlas}
+use Rattle.frz_journeys.specs.BackTable.{BackTable}
+use Rattle.frz_journeys.specs.Loaded.{link_loaded}
+use Rattle.frz_atlas_prelude.specs.Behind.{TableBytes, link_of}
+use Rattle.frz_atlas_prelude.specs.Held.{all_held}
+use Rattle.frz_atlas_prelude.specs.Reading.{LoadsAtlas}
+use Rattle.frz_atlas_prelude.specs.LoadedAtlas.{LoadedAtlas}
 use Rattle.frz_answer.specs.Answers.{IsLines}
 use Rattle.frz_answer.specs.declared.end.End.{End}
 use Rattle.frz_answer.specs.Ends.{Ran}

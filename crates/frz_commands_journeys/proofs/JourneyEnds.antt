@@ -10,12 +10,12 @@ use Rattle.frz_store.specs.Files.{Files}
 use Rattle.frz_store.specs.Told.{StoreTold, SourceTold, SinkTold, StoreQuiet, StoreFine}
 use Rattle.frz_table.specs.declared.fault.TableFault.{TableFault}
 use Rattle.frz_table.specs.Opening.{Contents, contents_of, opened, own_format}
-use Rattle.frz_backs.specs.Links.{Link}
-use Rattle.frz_atlas.specs.Behind.{TableBytes, link_of}
-use Rattle.frz_atlas.specs.Held.{all_held}
-use Rattle.frz_atlas.specs.Loading.{opened_all}
-use Rattle.frz_atlas.specs.Reading.{LoadsAtlas}
-use Rattle.frz_atlas.specs.declared.reading.LoadedAtlas.{LoadedAtlas}
+use Rattle.frz_journeys.specs.Links.{Link}
+use Rattle.frz_atlas_prelude.specs.Behind.{TableBytes, link_of}
+use Rattle.frz_atlas_prelude.specs.Held.{all_held}
+use Rattle.frz_atlas_prelude.specs.Loading.{opened_all}
+use Rattle.frz_atlas_prelude.specs.Reading.{LoadsAtlas}
+use Rattle.frz_atlas_prelude.specs.LoadedAtlas.{LoadedAtlas}
 use Rattle.frz_answer.specs.declared.status.Status.{Status}
 use Rattle.frz_answer.specs.declared.status.Status.TheVariants as statuses
 use Rattle.frz_answer.specs.declared.fault.Fault.TheVariants as stops

@@ -16,7 +16,7 @@ use Rattle.frz_arena.specs.LocalCodes.{local_code}
 use Rattle.frz_arena.specs.Plies.{LeadsTo}
 use Rattle.frz_arena.specs.WayEnds.{Wrong, NoBound, Mated, Stalemated, Exit, Cut, Stopped}
 use Rattle.frz_arena.specs.Ways.{Stage as Due, Over, Moves, is_cut, stage as due_at, stage_of, IsStopBy, IsWay}
-use Rattle.frz_backs.specs.Links.{Link}
+use Rattle.frz_journeys.specs.Links.{Link}
 use Rattle.frz_ways.specs.declared.opponent.Opponent.TheVariants.{Codes}
 use Rattle.frz_ways.specs.declared.session_end.PlayFault.TheVariants as plays
 use Rattle.frz_ways.specs.declared.session_end.PlayLimit.{PlayLimit}

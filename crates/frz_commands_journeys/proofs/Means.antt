@@ -22,11 +22,11 @@ use Rattle.frz_check.proofs.Lemmas.{bound_kept}
 use Rattle.frz_sets.specs.Views.{RuleLines}
 use Rattle.frz_game.specs.Values.{AreTrueExits}
 use Rattle.frz_exits.specs.Books.{value_by}
-use Rattle.frz_backs.specs.Links.{AreExact, AreTrueLines, Link, backs_of, own_over, value_over}
-use Rattle.frz_backs.proofs.Lemmas.{exits_over_true}
-use Rattle.frz_atlas.specs.Behind.{TableBytes, leans, link_of}
-use Rattle.frz_atlas.specs.Loading.{opened_all}
-use Rattle.frz_atlas.specs.declared.fault.BackFault.TheVariants.{Refused}
+use Rattle.frz_journeys.specs.Links.{AreExact, AreTrueLines, Link, backs_of, own_over, value_over}
+use Rattle.frz_journeys.proofs.Lemmas.{exits_over_true}
+use Rattle.frz_atlas_prelude.specs.Behind.{TableBytes, leans, link_of}
+use Rattle.frz_atlas_prelude.specs.Loading.{opened_all}
+use Rattle.frz_atlas_prelude.specs.BackFault.TheVariants.{Refused}
 use Rattle.frz_answer.specs.declared.status.Status.{Status}
 use Rattle.frz_answer.specs.declared.status.Status.TheVariants as statuses
 use Rattle.frz_answer.specs.Answers.{Answer, says}

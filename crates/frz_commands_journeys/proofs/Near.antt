@@ -4,7 +4,7 @@ use Rattle.std.specs.Prelude.{Any, MatchOption, slice_index_or}
 use Rattle.std.proofs.lemmas.List.{length-take}
 use Rattle.frz_board.specs.Boards.{Board}
 use Rattle.frz_board.specs.declared.man.Colour.{Colour}
-use Rattle.frz_backs.specs.Links.{Link}
+use Rattle.frz_journeys.specs.Links.{Link}
 use Rattle.frz_atlas_prelude.specs.declared.names.TheConstants.{MOST_BACKS}
 use Rattle.frz_ways.specs.declared.opponent.Opponent.{Opponent}
 use Rattle.frz_ways.specs.ChessGames.{after_plies}

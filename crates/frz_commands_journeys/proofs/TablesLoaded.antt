@@ -3,11 +3,11 @@ use Rattle.std.proofs.Common.{subst, ℕ, List, map}
 use Rattle.frz_board.specs.Boards.{Board}
 use Rattle.frz_store.specs.Told.{StoreTold}
 use Rattle.frz_table.specs.Opening.{contents_of}
-use Rattle.frz_backs.specs.Links.{Link}
-use Rattle.frz_backs.specs.Loaded.{link_loaded}
-use Rattle.frz_atlas.specs.Behind.{link_of}
-use Rattle.frz_atlas.specs.Reading.{LoadsAtlas}
-use Rattle.frz_atlas.specs.declared.reading.LoadedAtlas.{LoadedAtlas}
+use Rattle.frz_journeys.specs.Links.{Link}
+use Rattle.frz_journeys.specs.Loaded.{link_loaded}
+use Rattle.frz_atlas_prelude.specs.Behind.{link_of}
+use Rattle.frz_atlas_prelude.specs.Reading.{LoadsAtlas}
+use Rattle.frz_atlas_prelude.specs.LoadedAtlas.{LoadedAtlas}
 use Rattle.frz_ways.specs.declared.opponent.Player.{Player}
 use Rattle.frz_journeys.specs.declared.place.Arrival.{Arrival}
 use Rattle.frz_journeys.specs.Playing.{TellsJourney}

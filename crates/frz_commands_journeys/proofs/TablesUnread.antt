@@ -8,14 +8,14 @@ use Rattle.frz_store.specs.Files.{Files}
 use Rattle.frz_store.specs.Told.{StoreTold, SourceTold, SinkTold, StoreQuiet}
 use Rattle.frz_table.specs.declared.fault.TableFault.{TableFault}
 use Rattle.frz_table.specs.Opening.{Contents, opened, own_format}
-use Rattle.frz_atlas.specs.Behind.{TableBytes}
-use Rattle.frz_atlas.specs.Causes.{HasAtlasCause}
-use Rattle.frz_atlas.specs.Loading.{opened_all, opened_own}
-use Rattle.frz_atlas.specs.Reading.{IsUnopened, RefusesToRead}
-use Rattle.frz_atlas.specs.declared.fault.AtlasFault.{AtlasFault}
-use Rattle.frz_atlas.specs.declared.fault.AtlasFault.TheVariants.{Rules, Table, Back as BackAt, Failed, NoMemory}
-use Rattle.frz_atlas.specs.declared.fault.BackFault.TheVariants.{Refused, Wrong}
-use Rattle.frz_atlas.specs.declared.reading.LoadedAtlas.{LoadedAtlas}
+use Rattle.frz_atlas_prelude.specs.Behind.{TableBytes}
+use Rattle.frz_atlas_prelude.specs.Causes.{HasAtlasCause}
+use Rattle.frz_atlas_prelude.specs.Loading.{opened_all, opened_own}
+use Rattle.frz_atlas_prelude.specs.Reading.{IsUnopened, RefusesToRead}
+use Rattle.frz_atlas_prelude.specs.AtlasFault.{AtlasFault}
+use Rattle.frz_atlas_prelude.specs.AtlasFault.TheVariants.{Rules, Table, Back as BackAt, Failed, NoMemory}
+use Rattle.frz_atlas_prelude.specs.BackFault.TheVariants.{Refused, Wrong}
+use Rattle.frz_atlas_prelude.specs.LoadedAtlas.{LoadedAtlas}
 use Rattle.frz_answer.specs.declared.end.End.{End}
 use Rattle.frz_answer.specs.declared.status.Status.TheVariants as statuses
 use Rattle.frz_answer.specs.Answers.{Answer, says}

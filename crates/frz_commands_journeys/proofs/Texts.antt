@@ -5,8 +5,8 @@ use Rattle.frz_board.specs.Boards.{Board}
 use Rattle.frz_board.specs.declared.man.Colour.{Colour}
 use Rattle.frz_game.specs.declared.wrong.Wrong.{Wrong as WrongEntry}
 use Rattle.frz_arena.specs.WayEnds.{Wrong, NoBound, Mated, Stalemated, Exit, Cut, Stopped}
-use Rattle.frz_backs.specs.Links.{Link}
-use Rattle.frz_atlas.specs.declared.fault.BackFault.TheVariants as backs
+use Rattle.frz_journeys.specs.Links.{Link}
+use Rattle.frz_atlas_prelude.specs.BackFault.TheVariants as backs
 use Rattle.frz_atlas_prelude.proofs.Lemmas.{back_line_not_empty}
 use Rattle.frz_ways.specs.declared.end.LineFault.TheVariants as faults
 use Rattle.frz_ways.specs.declared.hearing.Why.{Why}

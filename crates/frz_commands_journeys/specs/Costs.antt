@@ -6,8 +6,8 @@ use Rattle.frz_board.specs.Boards.{Board}
 use Rattle.frz_index.specs.Membership.{is_member}
 use Rattle.frz_table.specs.declared.fault.TableFault.{TableFault}
 use Rattle.frz_table.specs.Opening.{Contents, opened, own_format}
-use Rattle.frz_atlas.specs.Behind.{TableBytes}
-use Rattle.frz_atlas.specs.Loading.{opened_all}
+use Rattle.frz_atlas_prelude.specs.Behind.{TableBytes}
+use Rattle.frz_atlas_prelude.specs.Loading.{opened_all}
 use Rattle.frz_answer.specs.World.{Spent}
 use Rattle.frz_answer.specs.Jobs.{Costs, WithinCosts}
 use Rattle.frz_atlas_prelude.specs.Costs.{loading_bytes, loading_calls}

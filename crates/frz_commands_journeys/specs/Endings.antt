@@ -7,7 +7,7 @@ use Rattle.frz_answer.specs.declared.status.Status.TheVariants.{Success, Wrong}
 use Rattle.frz_answer.specs.declared.end.End.{End}
 use Rattle.frz_answer.specs.Ends.{Said}
 use Rattle.frz_prelude.specs.WrongLines.{wrong_line}
-use Rattle.frz_atlas.specs.declared.fault.BackFault.TheVariants as backs
+use Rattle.frz_atlas_prelude.specs.BackFault.TheVariants as backs
 use Rattle.frz_atlas_prelude.specs.BackLines.{back_line}
 use Rattle.frz_atlas_prelude.specs.declared.names.TheConstants.{MOST_BACKS}
 use Rattle.frz_ways.specs.declared.end.LineFault.TheVariants as faults

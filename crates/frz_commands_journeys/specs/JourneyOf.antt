@@ -5,10 +5,10 @@ use Rattle.frz_index.specs.Membership.{is_member}
 use Rattle.frz_store.specs.Files.{Files, bytes_at}
 use Rattle.frz_table.specs.declared.fault.TableFault.{TableFault}
 use Rattle.frz_table.specs.Opening.{Contents, opened, own_format}
-use Rattle.frz_backs.specs.Links.{Link}
-use Rattle.frz_atlas.specs.Behind.{TableBytes, link_of}
-use Rattle.frz_atlas.specs.Loading.{opened_all}
-use Rattle.frz_atlas.specs.declared.fault.BackFault.TheVariants.{Refused}
+use Rattle.frz_journeys.specs.Links.{Link}
+use Rattle.frz_atlas_prelude.specs.Behind.{TableBytes, link_of}
+use Rattle.frz_atlas_prelude.specs.Loading.{opened_all}
+use Rattle.frz_atlas_prelude.specs.BackFault.TheVariants.{Refused}
 use Rattle.frz_answer.specs.Answers.{Answer, says}
 use Rattle.frz_prelude.specs.Refusals.{refusal_line, status_of, table_status}
 use Rattle.frz_prelude.specs.TableCauses.{table_line}

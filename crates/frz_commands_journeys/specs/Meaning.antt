@@ -12,9 +12,9 @@ use Rattle.frz_arena.specs.declared.bound.Bound.TheVariants.{Wins, Holds}
 use Rattle.frz_arena.specs.Codes.{code_of}
 use Rattle.frz_game.specs.Values.{AreTrueExits}
 use Rattle.frz_game.specs.declared.wrong.Wrong.{Wrong as WrongEntry}
-use Rattle.frz_backs.specs.Links.{AreExact, AreTrueLines, Link, backs_of, own_over, value_over}
-use Rattle.frz_atlas.specs.Behind.{TableBytes, leans, link_of}
-use Rattle.frz_atlas.specs.Loading.{opened_all}
+use Rattle.frz_journeys.specs.Links.{AreExact, AreTrueLines, Link, backs_of, own_over, value_over}
+use Rattle.frz_atlas_prelude.specs.Behind.{TableBytes, leans, link_of}
+use Rattle.frz_atlas_prelude.specs.Loading.{opened_all}
 use Rattle.frz_answer.specs.declared.status.Status.{Status}
 use Rattle.frz_answer.specs.declared.status.Status.TheVariants.{Success, Wrong, Table, Outside, Missing, Limit}
 use Rattle.frz_answer.specs.Answers.{Answer}

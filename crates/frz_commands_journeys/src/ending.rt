@@ -5,8 +5,7 @@ ghost use Rattle.frz_answer.specs.declared.status.Status.TheVariants.{Wrong as W
 ghost use Rattle.frz_commands_journeys.specs.Endings.{EndsJourney, HasNearPlace, IsNear, wrong_at};
 
 use frz_answer::{End, Status, said};
-use frz_atlas::{AtlasFault, BackFault};
-use frz_atlas_prelude::end_at;
+use frz_atlas_prelude::{AtlasFault, BackFault, end_at};
 use frz_commands_line::end_of_session;
 use frz_game::Wrong;
 use frz_journeys::{Arrival, Place};

@@ -15,8 +15,7 @@ ghost use Rattle.frz_commands_journeys.specs.Journeying.{journey_words, journeyi
 
 use crate::ending::end_of_journey;
 use frz_answer::{End, refuse};
-use frz_atlas::load_atlas;
-use frz_atlas_prelude::{Asked, asked_names, end_at};
+use frz_atlas_prelude::{Asked, asked_names, end_at, load_atlas};
 use frz_board::Position;
 use frz_commands_line::{read_side, refuse_side};
 use frz_fen::read_fen;

@@ -5,7 +5,7 @@ use Rattle.std.proofs.lemmas.List.Elements.{All-head, All-tail}
 use Rattle.std.proofs.lemmas.List.Sums.{sum_by-append, sum_by-cons}
 use Rattle.frz_sets.specs.Views.{RuleLines}
 use Rattle.frz_rules.specs.Text.{rules_of}
-use Rattle.frz_backs.specs.Links.{Link}
+use Rattle.frz_atlas.specs.Links.{Link}
 use Rattle.frz_exit_lines.specs.Numbers.{exit_numbers_of}
 use Rattle.frz_exit_lines.proofs.Lemmas.{as_many_lines}
 use Rattle.frz_premises.specs.declared.basis.Basis.{Basis}

@@ -3,13 +3,13 @@ use Rattle.std.proofs.Common.{Bool, true, false, ◌≡◌, ◌∙◌, List, ap,
 use Rattle.std.specs.Prelude.{map}
 use Rattle.frz_sets.specs.Views.{RuleLines}
 use Rattle.frz_exits.specs.Books.{value_by}
-use Rattle.frz_backs.specs.Books.{Back}
-use Rattle.frz_backs.specs.FileOn.{loaded_back}
-use Rattle.frz_backs.specs.BackTable.{BackTable}
-use Rattle.frz_backs.specs.Links.{Link, backs_of, value_over}
-use Rattle.frz_backs.specs.Loaded.{link_loaded}
-use Rattle.frz_backs.specs.Values.{atlas_value}
-use Rattle.frz_backs.proofs.Lemmas.{loaded_backs}
+use Rattle.frz_atlas.specs.Books.{Back}
+use Rattle.frz_atlas.specs.FileOn.{loaded_back}
+use Rattle.frz_atlas.specs.BackTable.{BackTable}
+use Rattle.frz_atlas.specs.Links.{Link, backs_of, value_over}
+use Rattle.frz_atlas.specs.Loaded.{link_loaded}
+use Rattle.frz_atlas.specs.Values.{atlas_value}
+use Rattle.frz_atlas.proofs.Lemmas.{loaded_backs}
 use Rattle.frz_premises.specs.declared.sides.ExitValues.{ExitValues}
 use Rattle.frz_premises.specs.Sides.{exits_tell}
 use Rattle.frz_commands_premises.specs.PremiseLines.{built_value, leans_over}

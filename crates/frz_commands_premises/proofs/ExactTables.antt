@@ -8,11 +8,11 @@ use Rattle.frz_sets.specs.Sets.{size_of}
 use Rattle.frz_table.specs.Opening.{own_format}
 use Rattle.frz_table.proofs.Lemmas.{belongs}
 use Rattle.frz_check.specs.Kept.{opened_size}
-use Rattle.frz_backs.specs.Books.{Back}
-use Rattle.frz_backs.specs.FileOn.{back_of}
-use Rattle.frz_backs.specs.BackTable.{BackTable}
-use Rattle.frz_backs.specs.Links.{AreExactOver, Link}
-use Rattle.frz_backs.specs.Loaded.{link_loaded}
+use Rattle.frz_atlas.specs.Books.{Back}
+use Rattle.frz_atlas.specs.FileOn.{back_of}
+use Rattle.frz_atlas.specs.BackTable.{BackTable}
+use Rattle.frz_atlas.specs.Links.{AreExactOver, Link}
+use Rattle.frz_atlas.specs.Loaded.{link_loaded}
 use Rattle.frz_atlas.specs.Behind.{AreJudged, AreJudgedOver, TableBytes, link_of}
 use Rattle.frz_atlas.specs.Costs.{steps_of}
 use Rattle.frz_atlas.specs.Held.{all_held}

@@ -5,3 +5,4 @@ pub use Rattle.frz_commands_premises.proofs.ExactTables.{all_read, exact_front, 
 pub use Rattle.frz_commands_premises.proofs.Meaning.{behind_mean}
 pub use Rattle.frz_commands_premises.proofs.SideWords.{true_codes}
 pub use Rattle.frz_commands_premises.proofs.Writable.{writable_behind}
+pub use Rattle.frz_premises.proofs.Lemmas.{all_true, none_hold}

@@ -8,7 +8,7 @@ use Rattle.frz_rules.specs.Text.{rules_of}
 use Rattle.frz_sets.specs.Views.{RuleLines}
 use Rattle.frz_store.specs.Bytes.{HoldsBytes}
 use Rattle.frz_store.specs.Files.{Files}
-use Rattle.frz_backs.specs.Links.{AreExact, Link}
+use Rattle.frz_atlas.specs.Links.{AreExact, Link}
 use Rattle.frz_atlas.specs.Behind.{AreJudged}
 use Rattle.frz_atlas.specs.declared.fault.BackFault.{BackFault}
 use Rattle.frz_atlas.specs.declared.fault.BackFault.TheVariants.{Refused, Wrong}

@@ -8,7 +8,7 @@ use Rattle.frz_sets.specs.declared.exit.Value.{Value}
 use Rattle.frz_game.specs.Bounds.{IsTableOf}
 use Rattle.frz_game.specs.Values.{AreTrueExits}
 use Rattle.frz_game.proofs.Lemmas.{table_means}
-use Rattle.frz_backs.specs.Links.{AreExact, Link}
+use Rattle.frz_atlas.specs.Links.{AreExact, Link}
 use Rattle.frz_premises.specs.declared.sides.ExitValues.{ExitValues}
 use Rattle.frz_premises.specs.declared.sides.Strength.{Strength}
 use Rattle.frz_premises.specs.declared.sides.Strength.TheVariants.{Believed, Renounced, Undecided, Outcomes, Exact}

@@ -4,7 +4,7 @@ use Rattle.std.specs.Prelude.{sum_by}
 use Rattle.std.proofs.lemmas.List.{take_more}
 use Rattle.std.proofs.lemmas.List.Sums.{sum_by-append, sum_by-cons, sum_by-take-le}
 use Rattle.frz_sets.specs.Sets.{size_of}
-use Rattle.frz_backs.specs.BackTable.{BackTable}
+use Rattle.frz_atlas.specs.BackTable.{BackTable}
 
 abbrev pub back_size : BackTable → ℕ
 back_size back = size_of back.table.rules.groups

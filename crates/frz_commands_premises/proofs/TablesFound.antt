@@ -4,7 +4,7 @@ use Rattle.std.specs.Prelude.{map, sum_by}
 use Rattle.frz_sets.specs.Sets.{size_of}
 use Rattle.frz_sets.specs.Views.{RuleLines}
 use Rattle.frz_store.specs.Told.{StoreTold}
-use Rattle.frz_backs.specs.BackTable.{BackTable}
+use Rattle.frz_atlas.specs.BackTable.{BackTable}
 use Rattle.frz_atlas.specs.Costs.{WithinAll, steps_of}
 use Rattle.frz_atlas.specs.Held.{all_held}
 use Rattle.frz_atlas.specs.Opening.{OpensAll, RefusesAll}

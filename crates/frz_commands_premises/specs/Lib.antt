@@ -6,3 +6,4 @@ pub mod Premises
 pub mod PremisesMean
 pub mod SidesMean
 pub mod Premising
+pub use Rattle.frz_premises.specs.Believing

@@ -10,7 +10,7 @@ use Rattle.frz_game.specs.Games.{game_of}
 use Rattle.frz_game.specs.Values.{AreTrueExits, IsTrueValue}
 use Rattle.frz_rules.specs.Text.{rules_of}
 use Rattle.frz_store.specs.Files.{Files}
-use Rattle.frz_backs.specs.Links.{AreExact, AreTrueLines, Link}
+use Rattle.frz_atlas.specs.Links.{AreExact, AreTrueLines, Link}
 use Rattle.frz_atlas.specs.Behind.{AreJudged, TableBytes}
 use Rattle.frz_atlas.specs.Held.{all_held}
 use Rattle.frz_exit_lines.specs.Numbers.{exit_numbers_of}

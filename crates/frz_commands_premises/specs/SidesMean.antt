@@ -12,7 +12,7 @@ use Rattle.frz_arena.specs.Codes.{code_of}
 use Rattle.frz_arena.specs.WholeTruth.{MatesIn}
 use Rattle.frz_game.specs.ExactTables.{HasExactOutcomes}
 use Rattle.frz_game.specs.Games.{chess}
-use Rattle.frz_backs.specs.Links.{Link}
+use Rattle.frz_atlas.specs.Links.{Link}
 use Rattle.frz_premises.specs.Believing.{BeliefHolds, BeliefsHold}
 use Rattle.frz_premises.specs.declared.sides.Strength.{Strength}
 use Rattle.frz_premises.specs.declared.sides.Strength.TheVariants.{Believed, Renounced, Undecided, Outcomes, Exact}

@@ -3,13 +3,13 @@ ghost use Rattle.std.specs.Prelude.{◌≡◌, ◌≤◌, ◌+◌, ◌*◌, ◌+
 ghost use Rattle.frz_sets.specs.Sets.{size_of};
 ghost use Rattle.frz_sets.specs.Sound.{IsSound};
 ghost use Rattle.frz_rules.specs.Text.{rules_of};
-ghost use Rattle.frz_backs.specs.Loaded.{link_loaded};
+ghost use Rattle.frz_atlas.specs.Loaded.{link_loaded};
 ghost use Rattle.frz_premises.specs.Sides.{exits_tell};
 ghost use Rattle.frz_commands_premises.specs.PremiseLines as words;
 ghost use Rattle.frz_commands_premises.specs.PremiseLines.{behind_lines, belief_among, built_value, leans_over, lines_by, strength_over, text_link_loaded, text_lines};
 
 use crate::line::Line;
-use frz_backs::{AtlasBook, BackTable, leans};
+use frz_atlas::{AtlasBook, BackTable, leans};
 use frz_board::Colour;
 use frz_exit_lines::exit_line_numbers;
 use frz_exits::{ExitBook, RuleBook};

@@ -21,8 +21,8 @@ use Rattle.frz_atlas.specs.declared.fault.BackFault.TheVariants.{Refused, Wrong}
 use Rattle.frz_atlas.proofs.Lemmas.{judged_exact}
 use Rattle.frz_atlas_prelude.specs.BackLines.{back_status}
 use Rattle.frz_atlas_prelude.proofs.Lemmas.{judged_over}
-use Rattle.frz_premises.specs.Believing.{BeliefsHold}
-use Rattle.frz_premises.proofs.Lemmas.{all_true, none_hold}
+use Rattle.frz_commands_premises.specs.Believing.{BeliefsHold}
+use Rattle.frz_commands_premises.proofs.Lemmas.{all_true, none_hold}
 use Rattle.frz_commands_premises.specs.PremiseLines.{TextLink, behind_lines, belief_among, links_in, text_link_of}
 use Rattle.frz_commands_premises.proofs.Lemmas.{all_read, behind_mean, count_behind, links_are}
 use Rattle.frz_commands_verdict.specs.declared.verdict.Verdict.{Verdict}

@@ -6,3 +6,5 @@ pub mod Answers
 pub mod VerdictMeans
 pub mod Verdicting
 pub mod Ending
+pub use Rattle.frz_commands_premises.specs.Premising
+pub use Rattle.frz_backs.specs.Links

@@ -12,7 +12,7 @@ use Rattle.frz_answer.specs.declared.status.Status.TheVariants as statuses
 use Rattle.frz_answer.specs.Answers.{Answer}
 use Rattle.frz_atlas.specs.Behind.{AreJudged, TableBytes}
 use Rattle.frz_atlas.specs.Held.{all_held}
-use Rattle.frz_premises.specs.Believing.{BeliefsHold}
+use Rattle.frz_commands_premises.specs.Believing.{BeliefsHold}
 use Rattle.frz_commands_premises.specs.PremiseLines.{TextLink, behind_lines, belief_among, links_in, text_link_of}
 use Rattle.frz_commands_premises.specs.PremisesMean.{AllLinesMean}
 use Rattle.frz_commands_verdict.specs.declared.verdict.Verdict.{Verdict}

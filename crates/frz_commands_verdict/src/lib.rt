@@ -8,4 +8,5 @@ mod texts;
 mod verdict;
 
 pub use command::run_verdict;
+pub use frz_commands_premises::run_premises;
 pub use verdict::Verdict;

@@ -11,7 +11,7 @@ use Rattle.frz_exits.specs.Books.{value_by}
 use Rattle.frz_index.specs.Membership.{is_member}
 use Rattle.frz_index.proofs.Lemmas.{number_missing, number_there}
 use Rattle.frz_rules.specs.Text.{rules_of}
-use Rattle.frz_chain.specs.Books.{or_else}
+use Rattle.frz_backs.specs.Books.{or_else}
 use Rattle.frz_backs.specs.declared.counts.Counts.{Counts}
 use Rattle.frz_backs.specs.Behind.{value_behind}
 use Rattle.frz_backs.specs.Books.{Back}

@@ -10,7 +10,7 @@ use Rattle.frz_game.specs.declared.wrong.Wrong.{Wrong as WrongEntry}
 use Rattle.frz_store.specs.Files.{Files}
 use Rattle.frz_table.specs.Opening.{Contents}
 use Rattle.frz_check.specs.Kept.{kept_codes}
-use Rattle.frz_atlas.specs.Behind.{TableBytes}
+use Rattle.frz_atlas_prelude.specs.Behind.{TableBytes}
 use Rattle.frz_answer.specs.Answers.{Answer, says}
 use Rattle.frz_answer.specs.Lawful.{HasOneAnswer, IsLawful}
 use Rattle.frz_prelude.specs.Positions.{on_position}

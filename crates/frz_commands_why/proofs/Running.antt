@@ -22,14 +22,14 @@ use Rattle.frz_backs.specs.BackTable.{BackTable}
 use Rattle.frz_backs.specs.Links.{Link, value_over}
 use Rattle.frz_backs.specs.Loaded.{leans_as, link_loaded}
 use Rattle.frz_backs.proofs.Lemmas.{loaded_backs}
-use Rattle.frz_atlas.specs.Behind.{TableBytes, backs_in, leans}
-use Rattle.frz_atlas.specs.Causes.{HasAtlasCause}
-use Rattle.frz_atlas.specs.Held.{all_held}
-use Rattle.frz_atlas.specs.Loading.{opened_own}
-use Rattle.frz_atlas.specs.Reading.{LoadsAtlas, RefusesToRead, WithinReading}
-use Rattle.frz_atlas.specs.declared.fault.AtlasFault.{AtlasFault}
-use Rattle.frz_atlas.specs.declared.reading.LoadedAtlas.{LoadedAtlas}
-use Rattle.frz_atlas.proofs.Lemmas.{kept_backs}
+use Rattle.frz_atlas_prelude.specs.Behind.{TableBytes, backs_in, leans}
+use Rattle.frz_atlas_prelude.specs.Causes.{HasAtlasCause}
+use Rattle.frz_atlas_prelude.specs.Held.{all_held}
+use Rattle.frz_atlas_prelude.specs.Loading.{opened_own}
+use Rattle.frz_atlas_prelude.specs.Reading.{LoadsAtlas, RefusesToRead, WithinReading}
+use Rattle.frz_atlas_prelude.specs.AtlasFault.{AtlasFault}
+use Rattle.frz_atlas_prelude.specs.LoadedAtlas.{LoadedAtlas}
+use Rattle.frz_atlas_prelude.proofs.Lemmas.{kept_backs}
 use Rattle.frz_answer.specs.declared.end.End.{End}
 use Rattle.frz_answer.specs.declared.fault.Fault.TheVariants as stops
 use Rattle.frz_answer.specs.Answers.{Answer, SomeAnswer, says}

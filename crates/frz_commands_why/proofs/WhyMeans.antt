@@ -25,8 +25,8 @@ use Rattle.frz_table.proofs.Lemmas.{belongs}
 use Rattle.frz_check.specs.Kept.{kept_codes}
 use Rattle.frz_check.specs.KeptTables.{KeepsBound, KeepsTables}
 use Rattle.frz_check.proofs.Lemmas.{bound_kept}
-use Rattle.frz_atlas.specs.Behind.{TableBytes, backs_in, leans}
-use Rattle.frz_atlas.specs.Loading.{opened_all}
+use Rattle.frz_atlas_prelude.specs.Behind.{TableBytes, backs_in, leans}
+use Rattle.frz_atlas_prelude.specs.Loading.{opened_all}
 use Rattle.frz_answer.specs.declared.status.Status.{Status}
 use Rattle.frz_answer.specs.declared.status.Status.TheVariants as statuses
 use Rattle.frz_answer.specs.Answers.{Answer, says}

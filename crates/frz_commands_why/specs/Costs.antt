@@ -9,7 +9,7 @@ use Rattle.frz_fide.specs.Listing.{legal_moves_of}
 use Rattle.frz_game.specs.Numbers.{is_member}
 use Rattle.frz_table.specs.declared.fault.TableFault.{TableFault}
 use Rattle.frz_table.specs.Opening.{Contents}
-use Rattle.frz_atlas.specs.Loading.{opened_own}
+use Rattle.frz_atlas_prelude.specs.Loading.{opened_own}
 use Rattle.frz_answer.specs.Jobs.{Costs}
 use Rattle.frz_atlas_prelude.specs.Costs.{loading_bytes, loading_calls}
 use Rattle.frz_commands_why.specs.Telling.{telling_steps}

@@ -15,8 +15,8 @@ use Rattle.frz_game.specs.declared.wrong.Wrong.{Wrong as WrongEntry}
 use Rattle.frz_table.specs.Opening.{Contents}
 use Rattle.frz_check.specs.Kept.{kept_codes}
 use Rattle.frz_check.specs.KeptTables.{KeepsBound, KeepsTables}
-use Rattle.frz_atlas.specs.Behind.{TableBytes, backs_in, leans}
-use Rattle.frz_atlas.specs.Loading.{opened_all}
+use Rattle.frz_atlas_prelude.specs.Behind.{TableBytes, backs_in, leans}
+use Rattle.frz_atlas_prelude.specs.Loading.{opened_all}
 use Rattle.frz_answer.specs.declared.status.Status.{Status}
 use Rattle.frz_answer.specs.declared.status.Status.TheVariants.{Success, Wrong, Table, Outside, Missing}
 use Rattle.frz_answer.specs.Answers.{Answer}

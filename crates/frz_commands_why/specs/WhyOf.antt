@@ -10,7 +10,7 @@ use Rattle.frz_store.specs.Files.{Files}
 use Rattle.frz_table.specs.Opening.{Contents}
 use Rattle.frz_check.specs.Kept.{kept_codes}
 use Rattle.frz_backs.specs.Links.{value_over}
-use Rattle.frz_atlas.specs.Behind.{TableBytes, backs_in, leans}
+use Rattle.frz_atlas_prelude.specs.Behind.{TableBytes, backs_in, leans}
 use Rattle.frz_answer.specs.Answers.{Answer, says}
 use Rattle.frz_prelude.specs.Refusals.{refusal_line, status_of}
 use Rattle.frz_prelude.specs.declared.refused.Refused.TheVariants as refusals

@@ -7,3 +7,6 @@ pub mod Playing
 pub mod JourneyGames
 pub mod KeptBounds
 pub mod ExactJourneys
+pub use Rattle.frz_backs.specs.Links
+pub use Rattle.frz_backs.specs.BackTable
+pub use Rattle.frz_backs.specs.Loaded

@@ -3,7 +3,7 @@
 ghost use Rattle.std.specs.Prelude.{ℕ, List, All};
 ghost use Rattle.frz_board.specs.declared.man.Colour.{Colour};
 ghost use Rattle.frz_sets.specs.Views.{RuleLines};
-ghost use Rattle.frz_game.specs.Bounds.{IsTableOf};
+ghost use Rattle.frz_chain.specs.Bounds.{IsTableOf};
 ghost use Rattle.frz_backs.specs.Decided.{HasBothOutcomes};
 ghost use Rattle.frz_backs.specs.ExactOver.{AreTrueOutcomes, HasOutcomesOver};
 ghost use Rattle.frz_backs.specs.Links.{AreExact, Link, backs_of};

@@ -5,8 +5,8 @@ use Rattle.frz_store.specs.Files.{Files}
 use Rattle.frz_store.specs.Told.{StoreTold, sink_of, store_of}
 use Rattle.frz_table.specs.Tables.{Carries}
 use Rattle.frz_table.proofs.Lemmas.{fine_after, quiet_after}
-use Rattle.frz_backs.specs.BackTable.{BackTable}
-use Rattle.frz_backs.specs.FileOn.{loaded_back}
+use Rattle.frz_atlas.specs.BackTable.{BackTable}
+use Rattle.frz_atlas.specs.FileOn.{loaded_back}
 use Rattle.frz_answer.specs.World.{world}
 use Rattle.frz_answer.proofs.Lemmas.{quiet_both}
 use Rattle.frz_prelude.proofs.Lemmas.{ended, may_stop}

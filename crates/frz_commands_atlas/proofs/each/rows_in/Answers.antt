@@ -1,7 +1,7 @@
 use Rattle.std.proofs.Common.{arith, map, rules}
-use Rattle.frz_backs.specs.FileOn.{loaded_back}
-use Rattle.frz_backs.specs.Links.{value_over}
-use Rattle.frz_backs.specs.Loaded.{leans_as}
+use Rattle.frz_atlas.specs.FileOn.{loaded_back}
+use Rattle.frz_atlas.specs.Links.{value_over}
+use Rattle.frz_atlas.specs.Loaded.{leans_as}
 use Rattle.frz_commands_atlas.proofs.RowsRead.{below_size, no_rows, rows_read, staying_there}
 use Rattle.frz_commands_atlas.proofs.each.rows_in.Goals as goal
 

@@ -1,9 +1,9 @@
 use Rattle.std.proofs.Common.{◌≡◌, ◌∙◌, ◌≤◌, ◌<◌, ◌-◌, ◌+◌, ◌∷◌, [], ap, sym, refl, ℕ, suc, List, None, length, map, get_or, take, drop, arith}
 use Rattle.std.proofs.lemmas.List.{take_rest}
 use Rattle.frz_board.specs.Boards.{Board}
-use Rattle.frz_backs.specs.BackTable.{BackTable}
-use Rattle.frz_backs.specs.Codes.{codes_of}
-use Rattle.frz_backs.specs.FileOn.{loaded_back}
+use Rattle.frz_atlas.specs.BackTable.{BackTable}
+use Rattle.frz_atlas.specs.Codes.{codes_of}
+use Rattle.frz_atlas.specs.FileOn.{loaded_back}
 use Rattle.frz_commands_atlas.specs.FirstBack.{first_found, found_or}
 use Rattle.frz_commands_atlas.proofs.first_back.+first_found.Goals as goal
 

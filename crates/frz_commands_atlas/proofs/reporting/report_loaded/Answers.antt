@@ -2,7 +2,7 @@ use Rattle.std.specs.Prelude.{map}
 use Rattle.std.proofs.Common.{◌∙◌, ap}
 use Rattle.frz_graph.specs.EntryCodes.{of_side}
 use Rattle.frz_store.specs.Told.{sink_of}
-use Rattle.frz_backs.specs.FileOn.{loaded_back}
+use Rattle.frz_atlas.specs.FileOn.{loaded_back}
 use Rattle.frz_commands_atlas.specs.FirstExits.{WritesFirsts}
 use Rattle.frz_commands_atlas.proofs.ValuesOver.{by_lines, by_tables}
 use Rattle.frz_commands_atlas.proofs.reporting.report_loaded.Goals as goal

@@ -1,7 +1,7 @@
 use Rattle.std.proofs.Common.{◌≡◌, sym, ap, ◌∙◌, ◌≤◌, ◌-◌, List, [], ◌∷◌, ◌++◌, Option, length, map, get_or, take, drop, arith}
 use Rattle.std.proofs.lemmas.List.{take_rest}
 use Rattle.frz_board.specs.Boards.{Board}
-use Rattle.frz_backs.specs.FileOn.{loaded_back}
+use Rattle.frz_atlas.specs.FileOn.{loaded_back}
 use Rattle.frz_answer.proofs.Lemmas.{failed_first, gave_up, wrote_next}
 use Rattle.frz_commands_atlas.specs.declared.rows.Row.{Row}
 use Rattle.frz_commands_atlas.specs.FirstBack.{Found, found_behind}

@@ -2,7 +2,7 @@ use Rattle.std.proofs.Common.{map, subst}
 use Rattle.frz_board.specs.Boards.{Board}
 use Rattle.frz_fide.specs.Legal.{after}
 use Rattle.frz_store.specs.Told.{sink_of}
-use Rattle.frz_backs.specs.FileOn.{loaded_back}
+use Rattle.frz_atlas.specs.FileOn.{loaded_back}
 use Rattle.frz_answer.specs.Texts.{WroteText}
 use Rattle.frz_answer.proofs.Lemmas.{failed_first, gave_up, wrote_next}
 use Rattle.frz_commands_atlas.specs.FirstBack.{found_behind}

@@ -2,7 +2,7 @@ use Rattle.std.proofs.Common.{◌≡◌, ◌≤◌, ◌+◌, ◌*◌, ◌∙◌,
 use Rattle.frz_board.specs.declared.man.Colour.TheVariants.{White, Black}
 use Rattle.frz_game.specs.Games.{graph_by}
 use Rattle.frz_table.specs.Tables.{table_size}
-use Rattle.frz_backs.specs.FileOn.{loaded_back}
+use Rattle.frz_atlas.specs.FileOn.{loaded_back}
 use Rattle.frz_ways.specs.Costs.{arms_reads}
 use Rattle.frz_ways.specs.Kept.{told_codes, MayRead}
 use Rattle.frz_commands_atlas.specs.MoveRows.{row_by}

@@ -1,9 +1,9 @@
 use Rattle.std.proofs.Common.{List, map, subst}
 use Rattle.std.specs.String.{string_bytes}
 use Rattle.frz_store.specs.Told.{source_of, sink_of}
-use Rattle.frz_backs.specs.BackTable.{BackTable}
-use Rattle.frz_backs.specs.FileOn.{loaded_back}
-use Rattle.frz_backs.specs.Loaded.{link_loaded}
+use Rattle.frz_atlas.specs.BackTable.{BackTable}
+use Rattle.frz_atlas.specs.FileOn.{loaded_back}
+use Rattle.frz_atlas.specs.Loaded.{link_loaded}
 use Rattle.frz_atlas_prelude.proofs.Lemmas.{small_unread}
 use Rattle.frz_commands_inquiry.specs.Ending.{RunsInquiry}
 use Rattle.frz_commands_inquiry.specs.Places.{reply_to}

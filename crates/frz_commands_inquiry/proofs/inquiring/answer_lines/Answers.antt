@@ -6,8 +6,8 @@ use Rattle.frz_answer.specs.Texts.{FailedWithin, TookText}
 use Rattle.frz_commands_inquiry.specs.LinesTaken.{TakesLine}
 use Rattle.frz_commands_inquiry.specs.declared.inquiring.Halt.{Halt}
 use Rattle.frz_commands_inquiry.specs.declared.inquiring.Reader.{Reader}
-use Rattle.frz_backs.specs.FileOn.{loaded_back}
-use Rattle.frz_backs.specs.Loaded.{link_loaded}
+use Rattle.frz_atlas.specs.FileOn.{loaded_back}
+use Rattle.frz_atlas.specs.Loaded.{link_loaded}
 use Rattle.frz_commands_inquiry.specs.Places.{reply_to}
 use Rattle.frz_commands_inquiry.proofs.AnsweredOn.{answered_more, input_failed, no_more_lines, none_answered, output_failed}
 use Rattle.frz_commands_inquiry.proofs.inquiring.answer_lines.Goals as goal

@@ -1,7 +1,7 @@
 use Rattle.std.proofs.Common.{◌≡◌, map}
 use Rattle.frz_store.specs.Told.{source_of, sink_of}
-use Rattle.frz_backs.specs.FileOn.{loaded_back}
-use Rattle.frz_backs.specs.Loaded.{link_loaded}
+use Rattle.frz_atlas.specs.FileOn.{loaded_back}
+use Rattle.frz_atlas.specs.Loaded.{link_loaded}
 use Rattle.frz_commands_inquiry.specs.Places.{reply_to}
 use Rattle.frz_commands_inquiry.proofs.AnsweredOn.{AnsweredOn}
 use Rattle.frz_commands_inquiry.proofs.inquiring.answer_lines.Given as goal

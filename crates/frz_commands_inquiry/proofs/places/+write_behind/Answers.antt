@@ -4,9 +4,9 @@ use Rattle.frz_board.specs.Boards.{Board}
 use Rattle.frz_sets.specs.declared.exit.Value.{Value}
 use Rattle.frz_store.specs.Told.{sink_of}
 use Rattle.frz_answer.specs.Texts.{WroteText}
-use Rattle.frz_backs.specs.BackTable.{BackTable}
-use Rattle.frz_backs.specs.Codes.{codes_of}
-use Rattle.frz_backs.specs.FileOn.{loaded_back}
+use Rattle.frz_atlas.specs.BackTable.{BackTable}
+use Rattle.frz_atlas.specs.Codes.{codes_of}
+use Rattle.frz_atlas.specs.FileOn.{loaded_back}
 use Rattle.frz_commands_inquiry.specs.Places.{behind_or, behind_text, exit_or}
 use Rattle.frz_commands_inquiry.proofs.places.+write_behind.Goals as goal
 

@@ -6,12 +6,12 @@ use Rattle.frz_sets.specs.declared.exit.Value.{Value}
 use Rattle.frz_sets.specs.declared.exit.Value.TheVariants.{Unknown}
 use Rattle.frz_exits.specs.Books.{value_by}
 use Rattle.frz_chain.specs.Books.{or_else}
-use Rattle.frz_backs.specs.BackTable.{BackTable}
-use Rattle.frz_backs.specs.Behind.{value_behind}
-use Rattle.frz_backs.specs.FileOn.{loaded_back}
-use Rattle.frz_backs.specs.Loaded.{leans_as}
-use Rattle.frz_backs.specs.Values.{atlas_value}
-use Rattle.frz_backs.proofs.Lemmas.{lines_alone}
+use Rattle.frz_atlas.specs.BackTable.{BackTable}
+use Rattle.frz_atlas.specs.Behind.{value_behind}
+use Rattle.frz_atlas.specs.FileOn.{loaded_back}
+use Rattle.frz_atlas.specs.Loaded.{leans_as}
+use Rattle.frz_atlas.specs.Values.{atlas_value}
+use Rattle.frz_atlas.proofs.Lemmas.{lines_alone}
 use Rattle.frz_commands_inquiry.proofs.places.last_value.Goals as goal
 
 -- with no table behind them the exit lines say nothing but by those behind all tables

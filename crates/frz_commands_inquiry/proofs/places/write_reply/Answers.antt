@@ -4,10 +4,10 @@ use Rattle.frz_fen.specs.Reading.{fen_of}
 use Rattle.frz_store.specs.Told.{sink_of}
 use Rattle.frz_answer.specs.Texts.{WroteText}
 use Rattle.frz_answer.proofs.Lemmas.{failed_first, gave_up, wrote_next}
-use Rattle.frz_backs.specs.Books.{Back}
-use Rattle.frz_backs.specs.FileOn.{loaded_back}
-use Rattle.frz_backs.specs.Links.{Link}
-use Rattle.frz_backs.specs.Loaded.{link_loaded}
+use Rattle.frz_atlas.specs.Books.{Back}
+use Rattle.frz_atlas.specs.FileOn.{loaded_back}
+use Rattle.frz_atlas.specs.Links.{Link}
+use Rattle.frz_atlas.specs.Loaded.{link_loaded}
 use Rattle.frz_commands_inquiry.specs.Places.{place_text, read_text, reply_to}
 use Rattle.frz_commands_inquiry.specs.Trimmed.{trimmed}
 use Rattle.frz_commands_inquiry.proofs.places.write_reply.Goals as goal

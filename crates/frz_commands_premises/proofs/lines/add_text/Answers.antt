@@ -1,7 +1,7 @@
 use Rattle.std.proofs.Common.{◌∙◌, ℕ, ap, arith, length, map, sym}
 use Rattle.frz_rules.proofs.Lemmas.{text_sound}
 use Rattle.frz_table.proofs.Lemmas.{read_short}
-use Rattle.frz_backs.specs.Loaded.{link_loaded}
+use Rattle.frz_atlas.specs.Loaded.{link_loaded}
 use Rattle.frz_exit_lines.proofs.Lemmas.{as_many_lines}
 use Rattle.frz_premises.specs.declared.basis.Basis.{Basis}
 use Rattle.frz_premises.proofs.Lemmas.{many_bases}
