@@ -13,5 +13,5 @@ mod valid;
 
 pub use attack::attacked;
 pub use kings::with_kings;
-pub use turning::turned;
+pub use turning::{column, turned};
 pub use valid::valid_pairs;

@@ -1,4 +1,4 @@
-//! A plane with its squares exchanged.
+//! A column of a plane, and a plane with its squares exchanged.
 
 ghost use Rattle.std.specs.Prelude.{ℕ, ◌≡◌, ◌<◌};
 ghost use Rattle.frz_squares.specs.SquareSets.{has_square};
@@ -9,7 +9,7 @@ use frz_board::Square;
 use frz_planes::Plane;
 
 /// The squares of the white king beside a black one on `b`.
-fn column(plane: &Plane, b: u8) -> u64
+pub fn column(plane: &Plane, b: u8) -> u64
     requires { b < 64 }
     ensures { (a : ℕ) → a < 64 → has_square result a ≡ has_pair plane.now a b }
 {

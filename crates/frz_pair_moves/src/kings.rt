@@ -11,7 +11,7 @@ ghost use Rattle.frz_pair_moves.specs.Moves.{Makes, entered};
 
 use frz_bits::king_set;
 use frz_board::{Colour, Square};
-use frz_king_planes::turned;
+use frz_king_planes::column;
 use frz_planes::Plane;
 
 /// The pairs whose king of the side to move is a step from one of these pairs.
@@ -48,7 +48,7 @@ fn pairs_around(turn: Colour, s: Square, after: &Plane) -> Plane
 {
     match turn {
         Colour::White => white_beside(s, after.row(s.number())),
-        Colour::Black => black_beside(s, turned(after).row(s.number())),
+        Colour::Black => black_beside(s, column(after, s.number())),
     }
 }
 
