@@ -56,7 +56,7 @@ none_passes test xs i x none e =
     (λ h. let some = list_any_at test xs i x (slice_get_within xs i x e)
     (ap test (get_or_from_slice_get xs i x x e) ∙ h) in absurd cc)
 
-king_kind : (k : Kind) → (number_of_kind k == 1) ≡ true → k ≡ King
+pub king_kind : (k : Kind) → (number_of_kind k == 1) ≡ true → k ≡ King
 king_kind King h = refl
 king_kind Queen h = absurd cc
 king_kind Rook h = absurd cc

@@ -8,3 +8,7 @@ mod TakingApart
 mod Ready
 mod Ending
 mod PuttingTogether
+mod Sums
+mod KingTests
+mod AnySplit
+mod KeptSums

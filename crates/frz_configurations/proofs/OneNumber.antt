@@ -59,7 +59,7 @@ neither true y h = absurd cc
 neither false y h = (refl, h)
 
 -- no group has kings of the colour, among the earlier ones and this one
-none_more : (c : Colour) (earlier : List GroupLine) (g : GroupLine) →
+pub none_more : (c : Colour) (earlier : List GroupLine) (g : GroupLine) →
     has_king_group (earlier ++ g ∷ []) c ≡ false →
     (has_king_group earlier c ≡ false) × ((same_colour g.colour c && has_kings g) ≡ false)
 none_more c [] g h = (refl, (neither (same_colour g.colour c && has_kings g) false h).0)

@@ -35,7 +35,7 @@ are_kings earlier g h = record {
 }
 
 -- the groups with kings of sound rules
-kings_all : (earlier gs : List GroupLine) → AreSoundAfter earlier gs → (k : ℕ) (g : GroupLine) →
+pub kings_all : (earlier gs : List GroupLine) → AreSoundAfter earlier gs → (k : ℕ) (g : GroupLine) →
     slice_get gs k ≡ Some g → has_kings g ≡ true → AreKings g
 kings_all earlier [] sound k g e t = absurd cc
 kings_all earlier (x ∷ gs) sound zero g e t =

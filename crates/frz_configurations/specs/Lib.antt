@@ -1,3 +1,4 @@
 pub mod Configurations
 pub mod Parts
 pub mod Joined
+pub mod Shares

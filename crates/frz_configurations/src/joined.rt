@@ -50,7 +50,7 @@ fn place(group: &Group, square: Square) -> u32
 }
 
 /// White's square or Black's.
-fn square_of(colour: Colour, white: Square, black: Square) -> Square
+pub(crate) fn square_of(colour: Colour, white: Square, black: Square) -> Square
     ensures { result ≡ of_colour colour white black }
 {
     match colour {

@@ -6,5 +6,9 @@ mod configurations;
 mod joined;
 pub mod laws;
 mod parts;
+mod shares;
+#[cfg(test)]
+mod tests;
 
 pub use configurations::{Configurations, Split};
+pub use shares::Shares;
