@@ -1,4 +1,4 @@
-//! The pairs at which steps of men lead to pairs of planes.
+//! The pairs at which steps of men lead to pairs of planes, or to others.
 
 ghost use Rattle.std.specs.Prelude.{ℕ, ◌≡◌, ◌<◌, ◌↔◌, true, length};
 ghost use Rattle.std.specs.List.{All};
@@ -14,22 +14,33 @@ use crate::leading::leading_pairs;
 use crate::men::ManArm;
 use frz_planes::Plane;
 
-/// The pairs at which a legal step of a man leads to a pair of the plane of its configuration. The
-/// arms are those of the configuration whose live pairs `live` has; `lives` has the live pairs of
-/// all configurations.
-pub fn leading_men(arms: &[ManArm], live: &Plane, lives: &[Plane], planes: &[Plane]) -> Plane
+/// The pairs at which a legal step of a man leads to a pair of the plane of its configuration, or to
+/// another where `into` is false. The arms are those of the configuration whose live pairs `live`
+/// has; `lives` has the live pairs of all configurations. With `only_free` the steps that forbid
+/// lines cover do not count.
+pub fn leading_men(
+    arms: &[ManArm],
+    only_free: bool,
+    live: &Plane,
+    lives: &[Plane],
+    planes: &[Plane],
+    into: bool,
+) -> Plane
     requires inside { All (λ arm. arm.target < length lives.now) arms.now }
     requires many { length planes.now ≡ length lives.now }
     ensures { (r : RuleLines) (p : Board) (c : ℕ) → IsSound r → IsBoardOf r.groups c p →
-        AreLive r.groups c live.now → AreArms r.groups p arms.now →
+        AreLive r.groups c live.now → AreArms r p arms.now →
         AreAllLive r.groups lives.now → (a b : ℕ) → a < 64 → b < 64 →
         (has_pair result a b ≡ true)
-        ↔ (MakesMember r.groups p a b × ManLeads r.groups p planes.now a b) }
+        ↔ (MakesMember r.groups p a b × ManLeads r only_free p planes.now into a b) }
 {
     let mut pairs = Plane::empty();
     for arm in arms {
-        let target = arm.target as usize;
-        pairs.union_with(&leading_pairs(arm.step, live, &lives[target], &planes[target]));
+        if arm.counts(only_free) {
+            let target = arm.target as usize;
+            let led = leading_pairs(arm.step, live, &lives[target], &planes[target], into);
+            pairs.union_with(&led);
+        }
     }
     pairs
 }

@@ -7,23 +7,18 @@ use Rattle.frz_index.proofs.Lemmas.{Num_below}
 use Rattle.frz_configurations.specs.Configurations.{configuration_count}
 use Rattle.frz_configurations.proofs.Lemmas.{configuration_below}
 use Rattle.frz_king_planes.specs.Kings.{with_kings}
-use Rattle.frz_kingless.specs.Boards.{IsBoardOf}
+use Rattle.frz_kingless.specs.Boards.{IsBoardOf, are_known}
 use Rattle.frz_plane_arms.specs.Arms.{HasNoMember}
-use Rattle.frz_plane_arms.proofs.Finding.{board_split, for_groups, made_valid, none_made, none_there, placed, same_member, same_number}
+use Rattle.frz_plane_arms.specs.Crowning.{HasNoValid}
+use Rattle.frz_plane_arms.proofs.Finding.{board_split, for_groups, none_made, none_there, placed, same_member, same_number}
 use Rattle.frz_plane_arms.proofs.target.target_of.Goals as goal
 
 pub number_on-requires : goal.number_on-requires
 number_on-requires c =
-    let r = c.args.configurations.now.rules.now in
-    let q = c.args.q.now in
-    let known = for_groups c.args.set.now r.groups c.known_pairs-pairs.result c.requires.set
-    c.known_pairs-pairs.ensures in
     subst (λ (x : Board). IsValid x)
-    (sym (placed q c.with_kings-position.result c.in-Some.a c.in-Some.b c.at.result
+    (sym (placed c.args.q.now c.with_kings-position.result c.in-Some.a c.in-Some.b c.at.result
     c.at-in-Some.result c.with_kings-position.ensures c.at.ensures c.at-in-Some.ensures))
-    (made_valid r q c.args.valid.now c.known_pairs-pairs.result c.cut_with.new.self
-    c.requires.sound c.requires.valid known c.cut_with.ensures c.in-Some.a c.in-Some.b
-    c.in-Some.ensures)
+    c.in-Some.ensures.valid
 
 pub split-requires-clause-inside : goal.split-requires-clause-inside
 split-requires-clause-inside c =
@@ -38,43 +33,41 @@ split-requires-clause-inside c =
 pub returns-in-None-clause-board : goal.returns-in-None-clause-board
 returns-in-None-clause-board c =
     let r = c.args.configurations.now.rules.now in
-    let known = for_groups c.args.set.now r.groups c.known_pairs-pairs.result c.requires.set
-    c.known_pairs-pairs.ensures in
-    subst (λ (gs : List GroupLine). HasNoMember gs c.args.q.now) (sym c.requires.set)
-    (none_made r c.args.q.now c.args.valid.now c.known_pairs-pairs.result c.cut_with.new.self
-    c.requires.sound c.requires.valid known c.cut_with.ensures c.in-None.ensures)
+    let q = c.args.q.now in
+    subst (λ (gs : List GroupLine). HasNoMember gs q) (sym c.requires.set)
+    (none_made r q c.requires.sound
+    (subst (λ (gs : List GroupLine). HasNoValid (are_known gs) q) c.requires.set c.in-None.ensures))
 
 pub returns-in-None-number_on-clause-board : goal.returns-in-None-number_on-clause-board
 returns-in-None-number_on-clause-board c =
     let r = c.args.configurations.now.rules.now in
     let q = c.args.q.now in
-    let known = for_groups c.args.set.now r.groups c.known_pairs-pairs.result c.requires.set
-    c.known_pairs-pairs.ensures in
-    let here = placed q c.with_kings-position.result c.in-Some.a c.in-Some.b c.at.result
-    c.at-in-Some.result c.with_kings-position.ensures c.at.ensures c.at-in-Some.ensures in
+    let a = c.in-Some.a in
+    let b = c.in-Some.b in
+    let here = placed q c.with_kings-position.result a b c.at.result c.at-in-Some.result
+    c.with_kings-position.ensures c.at.ensures c.at-in-Some.ensures in
     subst (λ (gs : List GroupLine). HasNoMember gs q) (sym c.requires.set)
-    (none_there r q c.args.valid.now c.known_pairs-pairs.result c.cut_with.new.self
-    c.requires.sound c.requires.valid known c.cut_with.ensures c.in-Some.a c.in-Some.b
-    c.in-Some.ensures
+    (none_there r q c.requires.sound a b
+    (for_groups c.args.set.now r.groups q a b c.requires.set c.in-Some.ensures)
     (λ m. let wrong = c.in-None-number_on.ensures.member.1
-    (same_member r.groups c.args.set.now (with_kings q c.in-Some.a c.in-Some.b)
-    c.with_kings-position.result (sym c.requires.set) (sym here) m) in
+    (same_member r.groups c.args.set.now (with_kings q a b) c.with_kings-position.result
+    (sym c.requires.set) (sym here) m) in
     absurd cc))
 
 pub returns-in-Some-number_on-clause-board : goal.returns-in-Some-number_on-clause-board
 returns-in-Some-number_on-clause-board c =
     let r = c.args.configurations.now.rules.now in
     let q = c.args.q.now in
-    let known = for_groups c.args.set.now r.groups c.known_pairs-pairs.result c.requires.set
-    c.known_pairs-pairs.ensures in
-    let here = placed q c.with_kings-position.result c.in-Some.a c.in-Some.b c.at.result
-    c.at-in-Some.result c.with_kings-position.ensures c.at.ensures c.at-in-Some.ensures in
-    let x = with_kings q c.in-Some.a c.in-Some.b in
+    let a = c.in-Some.a in
+    let b = c.in-Some.b in
+    let here = placed q c.with_kings-position.result a b c.at.result c.at-in-Some.result
+    c.with_kings-position.ensures c.at.ensures c.at-in-Some.ensures in
+    let x = with_kings q a b in
     subst (λ (gs : List GroupLine). IsBoardOf gs c.split.result.configuration q)
     (sym c.requires.set)
-    (board_split r q c.args.valid.now c.known_pairs-pairs.result c.cut_with.new.self
-    c.requires.sound c.requires.valid known c.cut_with.ensures c.in-Some.a c.in-Some.b
-    c.in-Some.ensures c.in-Some-number_on.number c.split.result.configuration
+    (board_split r q c.requires.sound a b
+    (for_groups c.args.set.now r.groups q a b c.requires.set c.in-Some.ensures)
+    c.in-Some-number_on.number c.split.result.configuration
     c.split.result.white c.split.result.black
     (same_member c.args.set.now r.groups c.with_kings-position.result x c.requires.set here
     (c.in-Some-number_on.ensures.member.0 refl))
