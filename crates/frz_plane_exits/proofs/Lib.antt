@@ -1,0 +1,11 @@
+mod AddedPairs
+mod Joining
+mod AskedPairs
+mod LeavingPlanes
+mod MenLeave
+mod KingsLeave
+mod Outside
+mod AllMen
+mod AllKings
+mod AllExits
+mod LivePairs

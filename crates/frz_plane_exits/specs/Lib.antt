@@ -1,0 +1,4 @@
+-- Steps that leave a set.
+pub mod Exits
+pub mod Leaving
+pub mod Adding
