@@ -14,12 +14,10 @@ ghost use Rattle.frz_plane_game.specs.Targets.{LeadsInto, SomeMove};
 use crate::target::Target;
 use frz_board::Colour;
 use frz_planes::Plane;
-use frz_steps::Steps;
-use std::sync::ledger::Ledger;
 
 /// A restricted game over numbers, each of which stands at a pair of a plane: the plane of its
 /// configuration, at the squares of its kings.
-pub trait PlaneGame<L: Ledger> {
+pub trait PlaneGame {
     /// What each number is, and its moves.
     ghost arena: { Self → Arena Step ℕ Value };
 
@@ -57,55 +55,43 @@ pub trait PlaneGame<L: Ledger> {
         ensures { result ≡ turn self.now configuration };
 
     /// The numbers of the configuration that are not broken.
-    fn live(&self, configuration: u32, steps: &mut Steps<L>) -> Plane
+    fn live(&self, configuration: u32) -> Plane
         requires sound { sound self.now }
         requires inside { configuration < (spots self.now).configurations }
-        ensures numbers { HasNumbers (spots self.now) configuration result
-            (λ i. (arena self.now).node i ≢ Broken) }
-        ensures later { steps.old ≤ steps.new };
+        ensures { HasNumbers (spots self.now) configuration result
+            (λ i. (arena self.now).node i ≢ Broken) };
 
     /// The numbers of the configuration at which the side to move is mated.
-    fn mated(&self, configuration: u32, steps: &mut Steps<L>) -> Plane
+    fn mated(&self, configuration: u32) -> Plane
         requires sound { sound self.now }
         requires inside { configuration < (spots self.now).configurations }
-        ensures numbers { HasNumbers (spots self.now) configuration result
-            (λ i. (arena self.now).node i ≡ Mate (turn self.now configuration)) }
-        ensures later { steps.old ≤ steps.new };
+        ensures { HasNumbers (spots self.now) configuration result
+            (λ i. (arena self.now).node i ≡ Mate (turn self.now configuration)) };
 
     /// The numbers of the configuration that have a move, or a free move where free moves alone
     /// count.
-    fn moving(&self, configuration: u32, only_free: bool, steps: &mut Steps<L>) -> Plane
+    fn moving(&self, configuration: u32, only_free: bool) -> Plane
         requires sound { sound self.now }
         requires inside { configuration < (spots self.now).configurations }
-        ensures numbers { HasNumbers (spots self.now) configuration result
-            (λ i. SomeMove (arena self.now) only_free i (λ _. ⊤)) }
-        ensures later { steps.old ≤ steps.new };
+        ensures { HasNumbers (spots self.now) configuration result
+            (λ i. SomeMove (arena self.now) only_free i (λ _. ⊤)) };
 
     /// The numbers of the configuration of which a move leads into the target, or elsewhere where
     /// `into` is false; a free move, where free moves alone count.
-    fn leading(
-        &self,
-        configuration: u32,
-        only_free: bool,
-        target: &Target<'_>,
-        into: bool,
-        steps: &mut Steps<L>,
-    ) -> Plane
+    fn leading(&self, configuration: u32, only_free: bool, target: &Target<'_>, into: bool) -> Plane
         requires sound { sound self.now }
         requires inside { configuration < (spots self.now).configurations }
         requires many { length target.now.planes.now ≡ (spots self.now).configurations }
-        ensures numbers { HasNumbers (spots self.now) configuration result
+        ensures { HasNumbers (spots self.now) configuration result
             (λ i. SomeMove (arena self.now) only_free i (λ next. IsTrue into
             ↔ LeadsInto (arena self.now) (spots self.now) target.now.planes.now target.now.side
-            target.now.exits next)) }
-        ensures later { steps.old ≤ steps.new };
+            target.now.exits next)) };
 
     /// At least the lag of each exit that wins for the side, in plies.
-    fn greatest_lag(&self, side: Colour, steps: &mut Steps<L>) -> u32
+    fn greatest_lag(&self, side: Colour) -> u32
         requires { sound self.now }
         ensures within { LagsWithin (arena self.now) side result }
-        ensures small { result ≤ 1000 }
-        ensures later { steps.old ≤ steps.new };
+        ensures small { result ≤ 1000 };
 
     ghost finite: { (game : Self) → sound game → IsFinite (arena game) (spots game).numbers };
 

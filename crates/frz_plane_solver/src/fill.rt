@@ -1,6 +1,6 @@
 //! Planes of all configurations.
 
-ghost use Rattle.std.specs.Prelude.{◌≡◌, ◌≢◌, ◌≤◌, ◌<◌, ◌+◌, ◌||◌, ℕ, length};
+ghost use Rattle.std.specs.Prelude.{◌≡◌, ◌≢◌, ◌<◌, ◌+◌, ◌||◌, ℕ, length};
 ghost use Rattle.frz_arena.specs.declared.node.Node.TheVariants.{Broken};
 ghost use Rattle.frz_planes.specs.Planes.{has_pair, IsPlaneOf};
 ghost use Rattle.frz_plane_game.specs.Spots.{HaveNumbers, plane_at};
@@ -10,63 +10,51 @@ use crate::reach::{decided_first, decided_next};
 use frz_board::Colour;
 use frz_plane_game::PlaneGame;
 use frz_planes::Plane;
-use frz_steps::Steps;
-use std::sync::ledger::Ledger;
 
 /// Fills the planes with the numbers that are not broken.
-pub fn fill_live<G: PlaneGame<L>, L: Ledger>(game: &G, planes: &mut [Plane], steps: &mut Steps<L>)
+pub fn fill_live<G: PlaneGame>(game: &G, planes: &mut [Plane])
     requires sound { G.sound game.now }
     requires many { length planes.old ≡ (G.spots game.now).configurations }
-    ensures numbers { HaveNumbers (G.spots game.now) planes.new
+    ensures { HaveNumbers (G.spots game.now) planes.new
         (λ i. (G.arena game.now).node i ≢ Broken) }
-    ensures later { steps.old ≤ steps.new }
 {
     for c in 0..game.configurations() {
-        planes[c as usize] = game.live(c, steps);
+        planes[c as usize] = game.live(c);
     }
 }
 
 /// Fills the planes with the numbers that are decided at once.
-pub fn fill_first<G: PlaneGame<L>, L: Ledger>(
-    game: &G,
-    side: Colour,
-    win: bool,
-    planes: &mut [Plane],
-    steps: &mut Steps<L>,
-)
+pub fn fill_first<G: PlaneGame>(game: &G, side: Colour, win: bool, planes: &mut [Plane])
     requires sound { G.sound game.now }
     requires many { length planes.old ≡ (G.spots game.now).configurations }
-    ensures numbers { HaveNumbers (G.spots game.now) planes.new
+    ensures { HaveNumbers (G.spots game.now) planes.new
         (Decided (G.arena game.now) side win 0) }
-    ensures later { steps.old ≤ steps.new }
 {
     for c in 0..game.configurations() {
-        planes[c as usize] = decided_first(game, side, win, c, steps);
+        planes[c as usize] = decided_first(game, side, win, c);
     }
 }
 
 /// Fills `more` with the numbers that are decided within one ply more than `plies`, and within no
 /// fewer. The planes have those that are decided within `plies`.
-pub fn fill_next<G: PlaneGame<L>, L: Ledger>(
+pub fn fill_next<G: PlaneGame>(
     game: &G,
     side: Colour,
     win: bool,
     plies: u32,
     planes: &[Plane],
     more: &mut [Plane],
-    steps: &mut Steps<L>,
 )
     requires sound { G.sound game.now }
     requires many { length planes.now ≡ (G.spots game.now).configurations }
     requires room { length more.old ≡ (G.spots game.now).configurations }
     requires planes { HaveNumbers (G.spots game.now) planes.now
         (Decided (G.arena game.now) side win plies) }
-    ensures numbers { HaveNumbers (G.spots game.now) more.new
+    ensures { HaveNumbers (G.spots game.now) more.new
         (DecidedAt (G.arena game.now) side win (plies + 1)) }
-    ensures later { steps.old ≤ steps.new }
 {
     for c in 0..game.configurations() {
-        more[c as usize] = decided_next(game, side, win, plies, c, planes, steps);
+        more[c as usize] = decided_next(game, side, win, plies, c, planes);
     }
 }
 

@@ -10,13 +10,11 @@ use crate::room::empty_planes;
 use frz_board::{Colour, NoMemory};
 use frz_plane_game::PlaneGame;
 use frz_planes::Plane;
-use frz_steps::Steps;
 use std::alloc::Global;
-use std::sync::ledger::Ledger;
 
 /// Goes on until a ply adds nothing and no lag is longer, so that no exit that wins for the side is
 /// still to come.
-fn go_on<G: PlaneGame<L>, L: Ledger>(
+fn go_on<G: PlaneGame>(
     game: &G,
     side: Colour,
     lag: u32,
@@ -24,7 +22,6 @@ fn go_on<G: PlaneGame<L>, L: Ledger>(
     lost: &mut [Plane],
     more: &mut [Plane],
     codes: &mut [u32],
-    steps: &mut Steps<L>,
 )
     requires sound { G.sound game.now }
     requires within { LagsWithin (G.arena game.now) side lag }
@@ -32,12 +29,11 @@ fn go_on<G: PlaneGame<L>, L: Ledger>(
     requires room { length more.old ≡ (G.spots game.now).configurations }
     requires solved { IsSolvedTo (G.arena game.now) (G.spots game.now) side 0 won.old lost.old
         codes.old }
-    ensures codes { (i : ℕ) → IsCodeAt (G.arena game.now) side i (slice_index codes.new i) }
-    ensures later { steps.old ≤ steps.new }
+    ensures { (i : ℕ) → IsCodeAt (G.arena game.now) side i (slice_index codes.new i) }
 {
     let mut plies = 0;
     'plies: loop {
-        let added = advance(game, side, plies, won, lost, more, codes, steps);
+        let added = advance(game, side, plies, won, lost, more, codes);
         if !added && lag <= plies {
             return;
         }
@@ -46,14 +42,13 @@ fn go_on<G: PlaneGame<L>, L: Ledger>(
 }
 
 /// Solves from codes that are all 0.
-fn solve_from_zero<G: PlaneGame<L>, L: Ledger>(
+fn solve_from_zero<G: PlaneGame>(
     game: &G,
     side: Colour,
     won: &mut [Plane],
     lost: &mut [Plane],
     more: &mut [Plane],
     codes: &mut [u32],
-    steps: &mut Steps<L>,
 )
     requires sound { G.sound game.now }
     requires many_won { length won.old ≡ (G.spots game.now).configurations }
@@ -61,27 +56,20 @@ fn solve_from_zero<G: PlaneGame<L>, L: Ledger>(
     requires room { length more.old ≡ (G.spots game.now).configurations }
     requires many { length codes.old ≡ (G.spots game.now).numbers }
     requires zero { (i : ℕ) → slice_index codes.old i ≡ 0 }
-    ensures codes { (i : ℕ) → IsCodeAt (G.arena game.now) side i (slice_index codes.new i) }
-    ensures later { steps.old ≤ steps.new }
+    ensures { (i : ℕ) → IsCodeAt (G.arena game.now) side i (slice_index codes.new i) }
 {
-    begin(game, side, won, lost, more, codes, steps);
-    let lag = game.greatest_lag(side, steps);
-    go_on(game, side, lag, won, lost, more, codes, steps);
+    begin(game, side, won, lost, more, codes);
+    let lag = game.greatest_lag(side);
+    go_on(game, side, lag, won, lost, more, codes);
 }
 
 /// The codes of the bounds of a side, one for each number, and 0 at broken ones. It answers
 /// [`NoMemory`] if memory runs out.
-pub fn solve<G: PlaneGame<L>, L: Ledger>(
-    alloc: Global,
-    game: &G,
-    side: Colour,
-    steps: &mut Steps<L>,
-) -> Result<Vec<u32>, NoMemory>
+pub fn solve<G: PlaneGame>(alloc: Global, game: &G, side: Colour) -> Result<Vec<u32>, NoMemory>
     requires { G.sound game.now }
     ensures many { IfOk result (λ codes. length codes.items ≡ (G.spots game.now).numbers) }
     ensures codes { IfOk result (λ codes. (i : ℕ) →
         IsCodeAt (G.arena game.now) side i (slice_index codes.items i)) }
-    ensures later { steps.old ≤ steps.new }
 {
     let size = game.size() as usize;
     let Ok(mut codes) = vec![in alloc; 0; size] else {
@@ -91,8 +79,6 @@ pub fn solve<G: PlaneGame<L>, L: Ledger>(
     let mut won = empty_planes(alloc, many)?;
     let mut lost = empty_planes(alloc, many)?;
     let mut more = empty_planes(alloc, many)?;
-    solve_from_zero(
-        game, side, &mut won, &mut lost, &mut more, &mut codes, steps,
-    );
+    solve_from_zero(game, side, &mut won, &mut lost, &mut more, &mut codes);
     Ok(codes)
 }

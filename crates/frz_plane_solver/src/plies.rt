@@ -12,8 +12,6 @@ use crate::settle::{has_any, settle_all};
 use frz_board::Colour;
 use frz_plane_game::PlaneGame;
 use frz_planes::Plane;
-use frz_steps::Steps;
-use std::sync::ledger::Ledger;
 
 /// The code of a win or a failure within so many plies.
 fn code(win: bool, plies: u32) -> u32
@@ -25,7 +23,7 @@ fn code(win: bool, plies: u32) -> u32
 
 /// Adds to the planes, which have what is decided within `plies`, what one ply more decides, and
 /// puts the codes. `more` is room to work in. The answer is whether anything is added.
-fn add_ply<G: PlaneGame<L>, L: Ledger>(
+fn add_ply<G: PlaneGame>(
     game: &G,
     side: Colour,
     win: bool,
@@ -33,7 +31,6 @@ fn add_ply<G: PlaneGame<L>, L: Ledger>(
     planes: &mut [Plane],
     more: &mut [Plane],
     codes: &mut [u32],
-    steps: &mut Steps<L>,
 ) -> bool
     requires sound { G.sound game.now }
     requires few { plies < 1000000000 }
@@ -51,9 +48,8 @@ fn add_ply<G: PlaneGame<L>, L: Ledger>(
         DecidedAt (G.arena game.now) side win (plies + 1) i → ⊥ }
     ensures some { result ≡ true → (i : ℕ) × (i < (G.spots game.now).numbers)
         × DecidedAt (G.arena game.now) side win (plies + 1) i }
-    ensures later { steps.old ≤ steps.new }
 {
-    fill_next(game, side, win, plies, planes, more, steps);
+    fill_next(game, side, win, plies, planes, more);
     settle_all(game, more, code(win, plies + 1), codes);
     join_all(planes, more);
     has_any(more)
@@ -61,13 +57,12 @@ fn add_ply<G: PlaneGame<L>, L: Ledger>(
 
 /// Adds to the planes, which have what is decided at once or nothing, what is decided at once, and
 /// puts the codes.
-fn add_first<G: PlaneGame<L>, L: Ledger>(
+fn add_first<G: PlaneGame>(
     game: &G,
     side: Colour,
     win: bool,
     planes: &mut [Plane],
     codes: &mut [u32],
-    steps: &mut Steps<L>,
 )
     requires sound { G.sound game.now }
     requires wide { length planes.old ≡ (G.spots game.now).configurations }
@@ -77,40 +72,32 @@ fn add_first<G: PlaneGame<L>, L: Ledger>(
     ensures put { ArePut (λ i. (i < (G.spots game.now).numbers)
         × Decided (G.arena game.now) side win 0 i)
         (decided_code win 0) codes.old codes.new }
-    ensures later { steps.old ≤ steps.new }
 {
-    fill_first(game, side, win, planes, steps);
+    fill_first(game, side, win, planes);
     settle_all(game, planes, code(win, 0), codes);
 }
 
 /// Puts the code 1 at each number that is not broken. The planes are room to work in.
-fn add_live<G: PlaneGame<L>, L: Ledger>(
-    game: &G,
-    planes: &mut [Plane],
-    codes: &mut [u32],
-    steps: &mut Steps<L>,
-)
+fn add_live<G: PlaneGame>(game: &G, planes: &mut [Plane], codes: &mut [u32])
     requires sound { G.sound game.now }
     requires wide { length planes.old ≡ (G.spots game.now).configurations }
     requires many { length codes.old ≡ (G.spots game.now).numbers }
-    ensures put { ArePut (λ i. (i < (G.spots game.now).numbers)
+    ensures { ArePut (λ i. (i < (G.spots game.now).numbers)
         × ((G.arena game.now).node i ≢ Broken)) 1 codes.old codes.new }
-    ensures later { steps.old ≤ steps.new }
 {
-    fill_live(game, planes, steps);
+    fill_live(game, planes);
     settle_all(game, planes, 1, codes);
 }
 
 /// The planes and codes of what is decided at once, from codes that are all 0. `more` is room to
 /// work in.
-pub fn begin<G: PlaneGame<L>, L: Ledger>(
+pub fn begin<G: PlaneGame>(
     game: &G,
     side: Colour,
     won: &mut [Plane],
     lost: &mut [Plane],
     more: &mut [Plane],
     codes: &mut [u32],
-    steps: &mut Steps<L>,
 )
     requires sound { G.sound game.now }
     requires many_won { length won.old ≡ (G.spots game.now).configurations }
@@ -118,17 +105,16 @@ pub fn begin<G: PlaneGame<L>, L: Ledger>(
     requires room { length more.old ≡ (G.spots game.now).configurations }
     requires many { length codes.old ≡ (G.spots game.now).numbers }
     requires zero { (i : ℕ) → slice_index codes.old i ≡ 0 }
-    ensures solved { IsSolvedTo (G.arena game.now) (G.spots game.now) side 0 won.new lost.new
+    ensures { IsSolvedTo (G.arena game.now) (G.spots game.now) side 0 won.new lost.new
         codes.new }
-    ensures later { steps.old ≤ steps.new }
 {
-    add_live(game, more, codes, steps);
-    add_first(game, side, true, won, codes, steps);
-    add_first(game, side, false, lost, codes, steps);
+    add_live(game, more, codes);
+    add_first(game, side, true, won, codes);
+    add_first(game, side, false, lost, codes);
 }
 
 /// The planes and codes one ply on. The answer is whether anything is added.
-pub fn advance<G: PlaneGame<L>, L: Ledger>(
+pub fn advance<G: PlaneGame>(
     game: &G,
     side: Colour,
     plies: u32,
@@ -136,7 +122,6 @@ pub fn advance<G: PlaneGame<L>, L: Ledger>(
     lost: &mut [Plane],
     more: &mut [Plane],
     codes: &mut [u32],
-    steps: &mut Steps<L>,
 ) -> bool
     requires sound { G.sound game.now }
     requires few { plies < 1000000000 }
@@ -147,9 +132,8 @@ pub fn advance<G: PlaneGame<L>, L: Ledger>(
         lost.new codes.new }
     ensures same { result ≡ false → AreTold (G.arena game.now) side (plies + 1) codes.new }
     ensures late { result ≡ true → (i : ℕ) × (2 + 2 * (plies + 1) ≤ slice_index codes.new i) }
-    ensures later { steps.old ≤ steps.new }
 {
-    let wins = add_ply(game, side, true, plies, won, more, codes, steps);
-    let fails = add_ply(game, side, false, plies, lost, more, codes, steps);
+    let wins = add_ply(game, side, true, plies, won, more, codes);
+    let fails = add_ply(game, side, false, plies, lost, more, codes);
     wins || fails
 }

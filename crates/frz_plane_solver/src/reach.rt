@@ -1,6 +1,6 @@
 //! The numbers of one configuration that a ply decides.
 
-ghost use Rattle.std.specs.Prelude.{◌≡◌, ◌≤◌, ◌<◌, ◌+◌, ℕ, length, not, if◌then◌else◌};
+ghost use Rattle.std.specs.Prelude.{◌≡◌, ◌<◌, ◌+◌, ℕ, length, not, if◌then◌else◌};
 ghost use Rattle.frz_board.specs.Men.{same_colour};
 ghost use Rattle.frz_plane_game.specs.Spots.{HasNumbers, HaveNumbers};
 ghost use Rattle.frz_plane_game.specs.Targets.{LeadsInto};
@@ -9,8 +9,6 @@ ghost use Rattle.frz_plane_solver.specs.Decided.{Decided, DecidedAt, MovesTo, wo
 use frz_board::Colour;
 use frz_plane_game::{Exits, PlaneGame, Target};
 use frz_planes::Plane;
-use frz_steps::Steps;
-use std::sync::ledger::Ledger;
 
 /// Is the mover the side?
 fn is_own(mover: Colour, side: Colour) -> bool
@@ -39,85 +37,69 @@ fn exits_of(win: bool, plies: u32) -> Exits
 
 /// The numbers of the configuration at which the next ply leads into the target, whoever is to
 /// move: one move of who seeks it, or each move of who shuns it. A win is sought by the side.
-fn reaching<G: PlaneGame<L>, L: Ledger>(
-    game: &G,
-    configuration: u32,
-    target: &Target<'_>,
-    win: bool,
-    steps: &mut Steps<L>,
-) -> Plane
+fn reaching<G: PlaneGame>(game: &G, configuration: u32, target: &Target<'_>, win: bool) -> Plane
     requires sound { G.sound game.now }
     requires inside { configuration < (G.spots game.now).configurations }
     requires many { length target.now.planes.now ≡ (G.spots game.now).configurations }
-    ensures numbers { HasNumbers (G.spots game.now) configuration result
+    ensures { HasNumbers (G.spots game.now) configuration result
         (MovesTo (G.arena game.now) target.now.side win (LeadsInto (G.arena game.now)
         (G.spots game.now) target.now.planes.now target.now.side target.now.exits)) }
-    ensures later { steps.old ≤ steps.new }
 {
     let own = is_own(game.mover(configuration), target.side);
     if seeks(own, win) {
-        return game.leading(configuration, own, target, true, steps);
+        return game.leading(configuration, own, target, true);
     }
-    let mut plane = game.moving(configuration, own, steps);
-    plane.without(&game.leading(configuration, own, target, false, steps));
+    let mut plane = game.moving(configuration, own);
+    plane.without(&game.leading(configuration, own, target, false));
     plane
 }
 
 /// The numbers of the configuration that are decided within one ply more than `plies`, and within
 /// no fewer. The planes have those that are decided within `plies`.
-pub fn decided_next<G: PlaneGame<L>, L: Ledger>(
+pub fn decided_next<G: PlaneGame>(
     game: &G,
     side: Colour,
     win: bool,
     plies: u32,
     configuration: u32,
     planes: &[Plane],
-    steps: &mut Steps<L>,
 ) -> Plane
     requires sound { G.sound game.now }
     requires inside { configuration < (G.spots game.now).configurations }
     requires many { length planes.now ≡ (G.spots game.now).configurations }
     requires planes { HaveNumbers (G.spots game.now) planes.now
         (Decided (G.arena game.now) side win plies) }
-    ensures numbers { HasNumbers (G.spots game.now) configuration result
+    ensures { HasNumbers (G.spots game.now) configuration result
         (DecidedAt (G.arena game.now) side win (plies + 1)) }
-    ensures later { steps.old ≤ steps.new }
 {
     let target = Target {
         planes,
         side,
         exits: exits_of(win, plies),
     };
-    let mut plane = reaching(game, configuration, &target, win, steps);
+    let mut plane = reaching(game, configuration, &target, win);
     plane.without(&planes[configuration as usize]);
     plane
 }
 
 /// The numbers of the configuration that are decided at once: mated, or, for a failure, without a
 /// free move.
-pub fn decided_first<G: PlaneGame<L>, L: Ledger>(
-    game: &G,
-    side: Colour,
-    win: bool,
-    configuration: u32,
-    steps: &mut Steps<L>,
-) -> Plane
+pub fn decided_first<G: PlaneGame>(game: &G, side: Colour, win: bool, configuration: u32) -> Plane
     requires sound { G.sound game.now }
     requires inside { configuration < (G.spots game.now).configurations }
-    ensures numbers { HasNumbers (G.spots game.now) configuration result
+    ensures { HasNumbers (G.spots game.now) configuration result
         (Decided (G.arena game.now) side win 0) }
-    ensures later { steps.old ≤ steps.new }
 {
     let own = is_own(game.mover(configuration), side);
     if seeks(own, win) {
         return Plane::empty();
     }
-    let mut plane = game.mated(configuration, steps);
+    let mut plane = game.mated(configuration);
     if !own {
         return plane;
     }
-    let mut bound = game.moving(configuration, false, steps);
-    bound.without(&game.moving(configuration, true, steps));
+    let mut bound = game.moving(configuration, false);
+    bound.without(&game.moving(configuration, true));
     plane.union_with(&bound);
     plane
 }

@@ -8,16 +8,9 @@ ghost use Rattle.frz_plane_solver.specs.Walks.{IsIn};
 
 use frz_plane_game::PlaneGame;
 use frz_planes::Plane;
-use std::sync::ledger::Ledger;
 
 /// Puts the code at each number of the plane of a configuration.
-fn settle<G: PlaneGame<L>, L: Ledger>(
-    game: &G,
-    configuration: u32,
-    plane: &Plane,
-    code: u32,
-    codes: &mut [u32],
-)
+fn settle<G: PlaneGame>(game: &G, configuration: u32, plane: &Plane, code: u32, codes: &mut [u32])
     requires sound { G.sound game.now }
     requires many { length codes.old ≡ (G.spots game.now).numbers }
     requires only { (a b : ℕ) → a < 64 → b < 64 → has_pair plane.now a b ≡ true →
@@ -36,12 +29,7 @@ fn settle<G: PlaneGame<L>, L: Ledger>(
 }
 
 /// Puts the code at each number of the planes.
-pub fn settle_all<G: PlaneGame<L>, L: Ledger>(
-    game: &G,
-    planes: &[Plane],
-    code: u32,
-    codes: &mut [u32],
-)
+pub fn settle_all<G: PlaneGame>(game: &G, planes: &[Plane], code: u32, codes: &mut [u32])
     requires sound { G.sound game.now }
     requires wide { length planes.now ≡ (G.spots game.now).configurations }
     requires many { length codes.old ≡ (G.spots game.now).numbers }

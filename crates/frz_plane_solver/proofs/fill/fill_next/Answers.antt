@@ -8,12 +8,9 @@ pub loop-c-preserved : goal.loop-c-preserved
 loop-c-preserved g c =
     let arena = g.G.PlaneGame.arena c.args.game.now in
     let spots = g.G.PlaneGame.spots c.args.game.now in
-    record {
-      filled = filled_more (λ (k : ℕ) (plane : List ℕ). HasNumbers spots k plane (DecidedAt arena c.args.side c.args.win (c.args.plies + 1)))
-          c.loop-c.more c.loop-c.c c.decided_next.result (omega arith) c.loop-c.invariant.filled
-          c.decided_next.ensures.numbers;
-      later = omega (arith, c.loop-c.invariant.later, c.decided_next.ensures.later);
-    }
+    filled_more (λ (k : ℕ) (plane : List ℕ). HasNumbers spots k plane (DecidedAt arena c.args.side c.args.win (c.args.plies + 1)))
+    c.loop-c.more c.loop-c.c c.decided_next.result (omega arith) c.loop-c.invariant
+    c.decided_next.ensures
 
-pub returns-clause-numbers : goal.returns-clause-numbers
-returns-clause-numbers g c k l = c.loop-c.invariant.filled k (omega arith)
+pub returns : goal.returns
+returns g c k l = c.loop-c.invariant k (omega arith)

@@ -8,8 +8,8 @@ advance-added-requires-clause-few g c =
     let size = finite.few in
     omega (arith, size, c.plies.invariant.few)
 
-pub returns-then-lag-plies-clause-codes : goal.returns-then-lag-plies-clause-codes
-returns-then-lag-plies-clause-codes g c i =
+pub returns-then-lag-plies : goal.returns-then-lag-plies
+returns-then-lag-plies g c i =
     reached_codes (g.G.PlaneGame.arena c.args.game.now) c.args.side (c.plies.plies + 1) c.args.lag
     (omega arith) c.requires.within c.advance-added.new.codes
     (c.advance-added.ensures.same c.if-not-added.true) c.advance-added.ensures.solved.told i
@@ -17,7 +17,6 @@ returns-then-lag-plies-clause-codes g c i =
 pub plies-preserved : goal.plies-preserved
 plies-preserved g c = record {
   solved = c.advance-added.ensures.solved;
-  later = omega (arith, c.plies.invariant.later, c.advance-added.ensures.later);
   few = elim c.else-not-added.either [
     | inl waits ↦ (let l = waits.1 in omega arith)
     | inr added ↦ (

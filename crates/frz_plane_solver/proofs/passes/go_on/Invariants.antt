@@ -7,7 +7,6 @@ abbrev pub invariant-plies : goal.invariant-plies
 invariant-plies g l = record {
   solved : IsSolvedTo (g.G.PlaneGame.arena l.game) (g.G.PlaneGame.spots l.game) l.side l.plies
       l.won l.lost l.codes;
-  later : l.fn.steps ≤ l.steps;
   few : l.plies ≤ (g.G.PlaneGame.spots l.game).numbers + l.lag;
 }
 

@@ -7,7 +7,7 @@ use Rattle.frz_plane_solver.proofs.plies.add_first.Goals as goal
 
 pub settle_all-requires-clause-only : goal.settle_all-requires-clause-only
 settle_all-requires-clause-only g c k a b l m n t =
-    (c.fill_first.ensures.numbers k l).only a b m n t
+    (c.fill_first.ensures k l).only a b m n t
 
 pub returns-clause-put : goal.returns-clause-put
 returns-clause-put g c =
@@ -17,7 +17,7 @@ returns-clause-put g c =
     let P : ℕ → Type 0 = Decided arena c.args.side c.args.win 0 in
     let planes = c.fill_first.new.planes in
     let both = in_planes spots (g.met.G.PlaneGame.placed game c.requires.sound) planes P
-    c.fill_first.ensures.numbers in
+    c.fill_first.ensures in
     subst (λ (z : ℕ). ArePut (λ i. (i < spots.numbers) × P i) z c.args.codes.now
     c.settle_all.new.codes)
     c.code.ensures

@@ -7,17 +7,17 @@ use Rattle.frz_plane_solver.proofs.plies.add_live.Goals as goal
 
 pub settle_all-requires-clause-only : goal.settle_all-requires-clause-only
 settle_all-requires-clause-only g c k a b l m n t =
-    (c.fill_live.ensures.numbers k l).only a b m n t
+    (c.fill_live.ensures k l).only a b m n t
 
-pub returns-clause-put : goal.returns-clause-put
-returns-clause-put g c =
+pub returns : goal.returns
+returns g c =
     let game = c.args.game.now in
     let arena = g.G.PlaneGame.arena game in
     let spots = g.G.PlaneGame.spots game in
     let P : ℕ → Type 0 = λ i. arena.node i ≡ Broken → ⊥ in
     let planes = c.fill_live.new.planes in
     let both = in_planes spots (g.met.G.PlaneGame.placed game c.requires.sound) planes P
-    c.fill_live.ensures.numbers in
+    c.fill_live.ensures in
     put_same (IsIn spots planes) (λ i. (i < spots.numbers) × P i) 1 c.args.codes.now
     c.settle_all.new.codes (λ i p. (p.0, (both i p.0).1 p.1)) (λ i h. (h.0, (both i h.0).0 h.1))
     c.settle_all.ensures

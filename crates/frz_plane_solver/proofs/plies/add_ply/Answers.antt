@@ -8,7 +8,7 @@ use Rattle.frz_plane_solver.proofs.plies.add_ply.Goals as goal
 
 pub settle_all-requires-clause-only : goal.settle_all-requires-clause-only
 settle_all-requires-clause-only g c k a b l m n t =
-    (c.fill_next.ensures.numbers k l).only a b m n t
+    (c.fill_next.ensures k l).only a b m n t
 
 pub returns-clause-planes : goal.returns-clause-planes
 returns-clause-planes g c =
@@ -23,7 +23,7 @@ returns-clause-planes g c =
     (λ i l. all_decided arena c.args.side c.args.win n i
     (told_by_planes spots placed c.args.planes.now (Decided arena c.args.side c.args.win n)
     c.requires.planes i l))
-    c.requires.planes c.fill_next.ensures.numbers
+    c.requires.planes c.fill_next.ensures
     (λ k l. c.join_all.ensures k (let w = c.requires.wide in omega arith))
 
 pub returns-clause-put : goal.returns-clause-put
@@ -34,7 +34,7 @@ returns-clause-put g c =
     let placed = g.met.G.PlaneGame.placed game c.requires.sound in
     let P : ℕ → Type 0 = DecidedAt arena c.args.side c.args.win (c.args.plies + 1) in
     let more = c.fill_next.new.more in
-    let both = in_planes spots placed more P c.fill_next.ensures.numbers in
+    let both = in_planes spots placed more P c.fill_next.ensures in
     subst (λ (z : ℕ). ArePut (λ i. (i < spots.numbers) × P i) z c.args.codes.now
     c.settle_all.new.codes)
     c.code.ensures
@@ -49,7 +49,7 @@ returns-clause-none g c none i l d =
     let spots = g.G.PlaneGame.spots game in
     let placed = g.met.G.PlaneGame.placed game c.requires.sound in
     let is_so = (in_planes spots placed c.fill_next.new.more
-    (DecidedAt arena c.args.side c.args.win (c.args.plies + 1)) c.fill_next.ensures.numbers i l).1 d
+    (DecidedAt arena c.args.side c.args.win (c.args.plies + 1)) c.fill_next.ensures i l).1 d
     in
     let inside = placed.configuration i l in
     let is_not = c.has_any.ensures.none none (spots.at i).configuration (spots.at i).white
@@ -64,5 +64,5 @@ returns-clause-some g c some =
     let found = c.has_any.ensures.some some in
     let inside = found.3 in
     pair_found (g.G.PlaneGame.spots game) c.fill_next.new.more
-    (DecidedAt arena c.args.side c.args.win (c.args.plies + 1)) c.fill_next.ensures.numbers
+    (DecidedAt arena c.args.side c.args.win (c.args.plies + 1)) c.fill_next.ensures
     found.0 found.1 found.2 (let w = c.requires.room in omega arith) found.4 found.5 found.6

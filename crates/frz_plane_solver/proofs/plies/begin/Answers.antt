@@ -4,8 +4,8 @@ use Rattle.frz_plane_solver.proofs.AllNumbers.{told_by_planes}
 use Rattle.frz_plane_solver.proofs.NextTold.{first_told}
 use Rattle.frz_plane_solver.proofs.plies.begin.Goals as goal
 
-pub returns-clause-solved : goal.returns-clause-solved
-returns-clause-solved g c =
+pub returns : goal.returns
+returns g c =
     let game = c.args.game.now in
     let arena = g.G.PlaneGame.arena game in
     let spots = g.G.PlaneGame.spots game in
@@ -20,7 +20,7 @@ returns-clause-solved g c =
       failures = c.add_first-2.ensures.planes;
       told = first_told arena spots.numbers finite.numbered.past side c.args.codes.now
           c.add_live.new.codes c.add_first.new.codes c.add_first-2.new.codes c.requires.zero
-          c.add_live.ensures.put c.add_first.ensures.put c.add_first-2.ensures.put
+          c.add_live.ensures c.add_first.ensures.put c.add_first-2.ensures.put
           (told_by_planes spots placed c.add_first.new.planes (WinsWithin arena side 0)
           c.add_first.ensures.planes)
           (told_by_planes spots placed c.add_first-2.new.planes (FailsWithin arena side 0)

@@ -10,8 +10,8 @@ use Rattle.frz_plane_solver.proofs.NextNumbers.{none_at_once, other_at_once, own
 use Rattle.frz_plane_solver.proofs.Numbers.{numbers_joined, numbers_none, numbers_without, same_numbers}
 use Rattle.frz_plane_solver.proofs.reach.decided_first.Goals as goal
 
-pub returns-then-seeks-clause-numbers : goal.returns-then-seeks-clause-numbers
-returns-then-seeks-clause-numbers g c =
+pub returns-then-seeks : goal.returns-then-seeks
+returns-then-seeks g c =
     let game = c.args.game.now in
     let arena = g.G.PlaneGame.arena game in
     let spots = g.G.PlaneGame.spots game in
@@ -26,8 +26,8 @@ returns-then-seeks-clause-numbers g c =
     (sym c.seeks.ensures ∙ c.if-seeks.true))
     c.empty.ensures
 
-pub returns-then-not-own-clause-numbers : goal.returns-then-not-own-clause-numbers
-returns-then-not-own-clause-numbers g c =
+pub returns-then-not-own : goal.returns-then-not-own
+returns-then-not-own g c =
     let game = c.args.game.now in
     let arena = g.G.PlaneGame.arena game in
     let spots = g.G.PlaneGame.spots game in
@@ -38,10 +38,10 @@ returns-then-not-own-clause-numbers g c =
     (λ i l e. other_at_once arena m side i c.is_own-own.result c.args.win
     (c.is_own-own.ensures ∙ ap (λ (z : Colour). same_colour z side) c.mover.ensures)
     (sym c.seeks.ensures ∙ c.if-seeks.false) c.if-not-own.true)
-    c.mated-plane.ensures.numbers
+    c.mated-plane.ensures
 
-pub returns-clause-numbers : goal.returns-clause-numbers
-returns-clause-numbers g c =
+pub returns : goal.returns
+returns g c =
     let game = c.args.game.now in
     let arena = g.G.PlaneGame.arena game in
     let spots = g.G.PlaneGame.spots game in
@@ -61,7 +61,7 @@ returns-clause-numbers g c =
     (c.is_own-own.ensures ∙ ap (λ (z : Colour). same_colour z side) c.mover.ensures)
     (sym c.seeks.ensures ∙ c.if-seeks.false) c.if-not-own.false)
     (numbers_joined spots placed k c.mated-plane.result c.without.new.self c.union_with.new.self mated
-    (λ i. all i × (free i → ⊥)) c.mated-plane.ensures.numbers
+    (λ i. all i × (free i → ⊥)) c.mated-plane.ensures
     (numbers_without spots placed k c.moving-bound.result c.moving.result c.without.new.self all free
-    c.moving-bound.ensures.numbers c.moving.ensures.numbers c.without.ensures)
+    c.moving-bound.ensures c.moving.ensures c.without.ensures)
     c.union_with.ensures)

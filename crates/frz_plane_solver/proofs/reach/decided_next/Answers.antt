@@ -7,8 +7,8 @@ use Rattle.frz_plane_solver.proofs.Filling.{same_plane}
 use Rattle.frz_plane_solver.proofs.NextNumbers.{next_numbers}
 use Rattle.frz_plane_solver.proofs.reach.decided_next.Goals as goal
 
-pub returns-clause-numbers : goal.returns-clause-numbers
-returns-clause-numbers g c =
+pub returns : goal.returns
+returns g c =
     let game = c.args.game.now in
     let arena = g.G.PlaneGame.arena game in
     let spots = g.G.PlaneGame.spots game in
@@ -22,5 +22,5 @@ returns-clause-numbers g c =
     c.index-planes-configuration.result (let l = c.requires.many in let m = c.requires.inside in omega arith))
     (subst (λ (z : Exits). HasNumbers spots c.args.configuration c.reaching-plane.result
     (MovesTo arena side c.args.win (LeadsInto arena spots planes side z))) c.exits_of.ensures
-    c.reaching-plane.ensures.numbers)
+    c.reaching-plane.ensures)
     c.without.ensures

@@ -12,8 +12,8 @@ use Rattle.frz_plane_solver.proofs.Moves.{EachMove, each_leads, leads_or_not, on
 use Rattle.frz_plane_solver.proofs.Numbers.{numbers_without, same_numbers}
 use Rattle.frz_plane_solver.proofs.reach.reaching.Goals as goal
 
-pub returns-then-seeks-clause-numbers : goal.returns-then-seeks-clause-numbers
-returns-then-seeks-clause-numbers g c =
+pub returns-then-seeks : goal.returns-then-seeks
+returns-then-seeks g c =
     let game = c.args.game.now in
     let arena = g.G.PlaneGame.arena game in
     let spots = g.G.PlaneGame.spots game in
@@ -29,10 +29,10 @@ returns-then-seeks-clause-numbers g c =
     (g.met.G.PlaneGame.turns game c.requires.sound i l)) L own c.args.win
     (c.is_own-own.ensures ∙ ap (λ (z : Colour). same_colour z side) c.mover.ensures)
     (sym c.seeks.ensures ∙ c.if-seeks.true))
-    c.leading.ensures.numbers
+    c.leading.ensures
 
-pub returns-clause-numbers : goal.returns-clause-numbers
-returns-clause-numbers g c =
+pub returns : goal.returns
+returns g c =
     let game = c.args.game.now in
     let arena = g.G.PlaneGame.arena game in
     let spots = g.G.PlaneGame.spots game in
@@ -52,4 +52,4 @@ returns-clause-numbers g c =
     (numbers_without spots (g.met.G.PlaneGame.placed game c.requires.sound) c.args.configuration
     c.moving-plane.result c.leading-2.result c.without.new.self
     (λ i. SomeMove arena own i (λ _. ⊤)) (λ i. SomeMove arena own i (λ x. IsTrue false ↔ L x))
-    c.moving-plane.ensures.numbers c.leading-2.ensures.numbers c.without.ensures)
+    c.moving-plane.ensures c.leading-2.ensures c.without.ensures)
