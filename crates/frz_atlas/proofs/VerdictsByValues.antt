@@ -1,9 +1,6 @@
 -- Verdicts by the values of exits that a table of its kind has.
 use Rattle.std.proofs.Common.{◌≡◌, refl, subst, ℕ, List, map}
-use Rattle.frz_board.specs.Boards.{Board}
 use Rattle.frz_board.specs.declared.man.Colour.{Colour}
-use Rattle.frz_check.specs.EntryCodes.{of_side}
-use Rattle.frz_sets.specs.declared.exit.Value.{Value}
 use Rattle.frz_sets.specs.Views.{RuleLines}
 use Rattle.frz_check.specs.Books.{value_by}
 use Rattle.frz_table.specs.declared.kind.FileKind.{FileKind}
@@ -16,16 +13,6 @@ use Rattle.frz_backs.specs.BackTable.{BackTable}
 use Rattle.frz_backs.specs.Links.{value_over}
 use Rattle.frz_backs.specs.Loaded.{leans_as}
 use Rattle.frz_backs.specs.Values.{atlas_value}
-
--- of the same rules and lists
-pub moved_lists : (r s : RuleLines) (value : Board → Value) (white black white_slice
-    black_slice : List ℕ) (v : Verdict) → r ≡ s → white_slice ≡ white → black_slice ≡ black
-    → IsVerdict r value (λ side. of_side side white_slice black_slice) v
-    → IsVerdict s value (λ side. of_side side white black) v
-moved_lists r s value white black white_slice black_slice v is white_is black_is h =
-    subst (λ (x : RuleLines). IsVerdict x value (λ side. of_side side white black) v) is
-    (subst (λ (l : List ℕ). IsVerdict r value (λ side. of_side side white l) v) black_is
-    (subst (λ (l : List ℕ). IsVerdict r value (λ side. of_side side l black_slice) v) white_is h))
 
 -- by a book of tables, where the kind is one that leans on them
 pub moved_leaning : (kind : FileKind) (r s : RuleLines) (a b : List BackTable)

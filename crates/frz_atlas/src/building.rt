@@ -13,8 +13,9 @@ ghost use Rattle.frz_atlas.specs.Causes.{HasAtlasCause};
 ghost use Rattle.frz_atlas.specs.FileOver.{leans_on};
 
 use crate::{AtlasFault, open_behind};
-use frz_backs::{AtlasBook, BackTable, NewTable, ReadRules, build_ruled};
+use frz_backs::{AtlasBook, BackTable, NewTable, ReadRules};
 use frz_check::RuleBook;
+use frz_plane_tables::build_by_planes;
 use frz_rules::read_rules;
 use frz_steps::Steps;
 use frz_store::{Store, StoreFault};
@@ -52,11 +53,11 @@ pub fn build_over<S: Store, L: Ledger>(
     if backs.is_empty() {
         let kind = FileKind::Plain;
         let file = NewTable { name, kind, text };
-        return build_ruled(alloc, rules, &RuleBook::new(rules), &file, store, steps);
+        return build_by_planes(alloc, rules, &RuleBook::new(rules), &file, store, steps);
     }
     let kind = FileKind::Atlas;
     let file = NewTable { name, kind, text };
-    build_ruled(
+    build_by_planes(
         alloc,
         rules,
         &AtlasBook::new(rules, backs),

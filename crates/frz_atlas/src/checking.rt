@@ -15,7 +15,8 @@ ghost use Rattle.frz_atlas.specs.Checking.{ChecksAtlas, RefusesAtlas};
 
 use crate::{AtlasFault, open_behind};
 use frz_backs::{AtlasBook, BackTable};
-use frz_check::{RuleBook, Verdict, check_kept};
+use frz_check::{RuleBook, Verdict};
+use frz_plane_tables::check_kept_by_planes;
 use frz_steps::Steps;
 use frz_store::Store;
 use frz_table::{FileKind, TableFault, TableFile, open_own};
@@ -65,8 +66,11 @@ fn check_over<S: Store, L: Ledger>(
 {
     let rules = table.rules();
     match table.kind() {
-        FileKind::Atlas => check_kept(alloc, table, store, &AtlasBook::new(rules, backs), steps),
-        _ => check_kept(alloc, table, store, &RuleBook::new(rules), steps),
+        FileKind::Atlas => {
+            let book = AtlasBook::new(rules, backs);
+            check_kept_by_planes(alloc, table, store, &book, steps)
+        }
+        _ => check_kept_by_planes(alloc, table, store, &RuleBook::new(rules), steps),
     }
 }
 

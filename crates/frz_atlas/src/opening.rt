@@ -14,7 +14,8 @@ ghost use Rattle.frz_atlas.specs.Opening.{OpensAll, OpensOver, RefusesAll, Refus
 use crate::loading::load_own;
 use crate::{AtlasFault, BackFault};
 use frz_backs::{AtlasBook, BackTable};
-use frz_check::{ExitBook, Game, Pair, RuleBook, Verdict, check_entries};
+use frz_check::{ExitBook, Game, Pair, RuleBook, Verdict};
+use frz_plane_tables::judge;
 use frz_steps::Steps;
 use frz_store::Store;
 use frz_table::FileKind;
@@ -22,7 +23,12 @@ use std::alloc::Global;
 use std::sync::ledger::Ledger;
 
 /// The verdict on the codes of a loaded table, with exits valued by the book.
-fn verdict_by<B: ExitBook, L: Ledger>(back: &BackTable, book: &B, steps: &mut Steps<L>) -> Verdict
+fn verdict_by<B: ExitBook, L: Ledger>(
+    alloc: Global,
+    back: &BackTable,
+    book: &B,
+    steps: &mut Steps<L>,
+) -> Verdict
     ensures verdict { IsVerdict back.now.table.rules (B.value_at book.now)
         (λ side. of_side side back.now.white.items back.now.black.items) result }
     ensures steps { steps.new ≤ steps.old + table_size back.now.table }
@@ -37,11 +43,16 @@ fn verdict_by<B: ExitBook, L: Ledger>(back: &BackTable, book: &B, steps: &mut St
         white: back.white.as_slice(),
         black: back.black.as_slice(),
     };
-    check_entries(&game, &entries, steps)
+    judge(alloc, &game, &entries, steps)
 }
 
 /// The verdict on a loaded table, over the tables before it where it leans on them.
-fn verdict_over<L: Ledger>(back: &BackTable, before: &[BackTable], steps: &mut Steps<L>) -> Verdict
+fn verdict_over<L: Ledger>(
+    alloc: Global,
+    back: &BackTable,
+    before: &[BackTable],
+    steps: &mut Steps<L>,
+) -> Verdict
     ensures verdict { IsVerdict back.now.table.rules
         (value_over (leans_as back.now.table.kind) back.now.table.rules (map loaded_back before.now))
         (λ side. of_side side back.now.white.items back.now.black.items) result }
@@ -50,8 +61,8 @@ fn verdict_over<L: Ledger>(back: &BackTable, before: &[BackTable], steps: &mut S
 {
     let table = &back.table;
     match table.kind() {
-        FileKind::Atlas => verdict_by(back, &AtlasBook::new(table.rules(), before), steps),
-        _ => verdict_by(back, &RuleBook::new(table.rules()), steps),
+        FileKind::Atlas => verdict_by(alloc, back, &AtlasBook::new(table.rules(), before), steps),
+        _ => verdict_by(alloc, back, &RuleBook::new(table.rules()), steps),
     }
 }
 
@@ -76,7 +87,7 @@ pub fn open_over<S: Store, L: Ledger>(
         Ok(back) => back,
         Err(fault) => return Err(BackFault::Refused(fault)),
     };
-    match verdict_over(&back, before, steps) {
+    match verdict_over(alloc, &back, before, steps) {
         Verdict::Exact => Ok(back),
         Verdict::Wrong(wrong) => Err(BackFault::Wrong(wrong)),
     }

@@ -21,6 +21,8 @@ mod moves_back;
 #[cfg(test)]
 mod numbers;
 #[cfg(test)]
+mod plane_tables;
+#[cfg(test)]
 mod reading;
 #[cfg(test)]
 mod retro;

@@ -1,0 +1,2 @@
+pub mod KeptCodes
+pub mod Lemmas
