@@ -86,10 +86,7 @@ fn steps_of_men(rt: HostRuntime) -> Result<(), Fail> {
                 promo: *promo,
             },
         );
-        assert_eq!(rt;
-            target_of(&set, &configurations, &q),
-            *target
-        );
+        assert_eq!(rt; target_of(&set, &configurations, &q), *target);
     }
     Ok(())
 }
@@ -101,15 +98,9 @@ fn boards_of_kings(rt: HostRuntime) -> Result<(), Fail> {
     let configurations = Configurations::new(rt.alloc(), &rules)?;
     // a king's quiet step leaves both pawns, and his capture on d4 the white one
     let handed = board(&[(b'P', E3), (b'p', D4)], White, None).hand_over(None);
-    assert_eq!(rt;
-        target_of(&set, &configurations, &handed),
-        Some(26)
-    );
+    assert_eq!(rt; target_of(&set, &configurations, &handed), Some(26));
     let entered = handed.put(Square::at(D4), 0);
-    assert_eq!(rt;
-        target_of(&set, &configurations, &entered),
-        Some(24)
-    );
+    assert_eq!(rt; target_of(&set, &configurations, &entered), Some(24));
     // two black pawns, no white man, and a target that White has passed over himself
     let men: [(Men, Colour, Option<u8>); 3] = [
         (&[(b'P', E2), (b'p', E3), (b'p', D4)], White, None),
@@ -118,10 +109,7 @@ fn boards_of_kings(rt: HostRuntime) -> Result<(), Fail> {
     ];
     for (men, turn, ep) in men {
         let p = board(men, turn, ep);
-        assert_eq!(rt;
-            target_of(&set, &configurations, &p),
-            None
-        );
+        assert_eq!(rt; target_of(&set, &configurations, &p), None);
     }
     Ok(())
 }
