@@ -1,16 +1,19 @@
 //! The numbers of a set as configurations and kings.
 
-ghost use Rattle.std.specs.Prelude.{◌≡◌, ◌<◌, IfOk, map};
+ghost use Rattle.std.specs.Prelude.{◌≡◌, ◌<◌, IfOk, MatchOption, Some, false, length, map, true};
+ghost use Rattle.std.specs.List.{slice_get};
 ghost use Rattle.frz_board.specs.declared.man.Colour.TheVariants.{White, Black};
+ghost use Rattle.frz_combinations.specs.MixedRadix.{product};
 ghost use Rattle.frz_sets.specs.Sets.{radix_of, size_of};
 ghost use Rattle.frz_sets.specs.Sound.{IsSound};
+ghost use Rattle.frz_sets.specs.Views.{GroupLine};
 ghost use Rattle.frz_index.specs.Kept.{AreNumberable};
-ghost use Rattle.frz_configurations.specs.Configurations.{IsSplit, configuration_count};
+ghost use Rattle.frz_configurations.specs.Configurations.{IsSplit, configuration_count, has_kings as holds_kings, others};
 ghost use Rattle.frz_configurations.specs.Joined.{IsJoined, IsKingSquare};
 ghost use Rattle.frz_configurations.specs.Parts.{IsParted};
 
 use crate::joined::{Joined, nothing, put};
-use crate::parts::{Parts, taken, whole};
+use crate::parts::{Parts, has_kings, taken, whole};
 use frz_board::{NoMemory, Square};
 use frz_sets::{Group, Rules, radix, target_count};
 use std::alloc::{AllocError, Global};
@@ -78,6 +81,29 @@ impl Configurations<'_> {
         let rules = self.rules;
         let turns = target_count(&rules.groups) as u64 + 2;
         (turns * self.parts(0).count) as u32
+    }
+
+    /// How many configurations each turn state has.
+    pub fn whole(&self) -> u32
+        requires { IsSound self.now.rules.now }
+        ensures { result ≡ product (map radix_of (others self.now.rules.now.groups)) }
+    {
+        self.parts(0).count as u32
+    }
+
+    /// The radix of the group at this index. `None` if its men are kings.
+    pub fn other_radix(&self, k: usize) -> Option<u32>
+        requires { k < length self.now.rules.now.groups }
+        ensures { (g : GroupLine) → slice_get self.now.rules.now.groups k ≡ Some g →
+            MatchOption result (holds_kings g ≡ true)
+            (λ radix. (holds_kings g ≡ false) × (radix ≡ radix_of g)) }
+    {
+        let rules = self.rules;
+        if has_kings(&rules.groups[k]) {
+            None
+        } else {
+            Some(self.radices[k])
+        }
     }
 
     /// The number put together by all groups, from the last on.

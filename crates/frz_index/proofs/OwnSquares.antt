@@ -210,8 +210,16 @@ filled p (g ∷ gs) (d ∷ ds) cells e size apart counted fit free clear =
           ∙ ap (λ x. x ∷ map (digit_of p) gs) sel.number ∙ ap (λ xs. d ∷ xs) rest.1,
     )
 
+-- the men that digits put on an empty board are those of the digits
+pub own_digits : (p : Board) (gs : List GroupLine) (ds : List ℕ) → p.cells ≡ put_groups gs ds no_men →
+    AreApart gs → AreCounted gs → AreDigits (map radix_of gs) ds →
+    are_groups_free gs ds no_men ≡ true →
+    AllByRecursion (IsWithinCount p) gs × (map (digit_of p) gs ≡ ds)
+own_digits p gs ds e apart counted fit free =
+    filled p gs ds no_men e length-empty apart counted fit free (clear_empty gs)
+
 -- each man of the candidate has a state
-men_put : (gs : List GroupLine) (p : Board) (ds : List ℕ) → p.cells ≡ put_groups gs ds no_men →
+pub men_put : (gs : List GroupLine) (p : Board) (ds : List ℕ) → p.cells ≡ put_groups gs ds no_men →
     (s : ℕ) → s < 64 → slice_index p.cells s ≢ 0 → has_state gs (slice_index p.cells s) s ≡ true
 men_put gs p ds e s low some =
     elim (groups_put_or_kept gs ds no_men s) [
@@ -231,8 +239,7 @@ own_number gs i s apart below spread valid =
     let ds = digits (map radix_of gs) (i % w) in
     let some = product_some gs s.groups in
     let low = mod_below i w some in
-    let f = filled p gs ds no_men refl length-empty apart s.groups
-    (digits_fit (map radix_of gs) (i % w) low) spread (clear_empty gs) in
+    let f = own_digits p gs ds refl apart s.groups (digits_fit (map radix_of gs) (i % w) low) spread in
     let turn = turn_forth gs (i / w) (div_below i w (2 + length (targets gs)) some below) in
     record {
       member = record { valid = valid; men = men_put gs p ds refl; counts = f.0 };

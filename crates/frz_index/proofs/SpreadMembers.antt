@@ -141,6 +141,12 @@ groups_free p (g ∷ gs) cells apart counts free_yet =
     free_yet state.1 square (ap (λ b. b || has_state gs x state.1) own)))
     (groups_free p gs next apart.1 counts.1 (all_open_next p g gs cells apart counts.0 free_yet))
 
+-- the men of a board's digits all find their squares free on an empty board
+pub digits_free : (p : Board) (gs : List GroupLine) → AreApart gs →
+    AllByRecursion (IsWithinCount p) gs → are_groups_free gs (map (digit_of p) gs) no_men ≡ true
+digits_free p gs apart counts =
+    groups_free p gs no_men apart counts (λ s low has. get_or-empty s low)
+
 -- so each number of a position has men on squares of their own
 pub spread : (gs : List GroupLine) (i : ℕ) (p : Board) → AreApart gs → HasNumber gs i p →
     is_spread gs i ≡ true
@@ -153,4 +159,4 @@ spread gs i p apart h =
     ∙ ap (λ r. are_groups_free gs (digits bs r) no_men)
     (mod-mul-add (turn_number gs p.turn p.ep) (product bs) v (value_below bs ds fit))
     ∙ ap (λ xs. are_groups_free gs xs no_men) (digits-value bs ds fit)
-    ∙ groups_free p gs no_men apart h.member.counts (λ s low has. get_or-empty s low)
+    ∙ digits_free p gs apart h.member.counts

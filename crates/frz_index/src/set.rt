@@ -8,14 +8,14 @@ ghost use Rattle.frz_combinations.specs.MixedRadix.{product};
 ghost use Rattle.frz_fide.specs.Legal.{after, is_legal};
 ghost use Rattle.frz_fide.specs.Valid.{IsValid};
 ghost use Rattle.frz_sets.specs.Sets.{radix_of, size_of, targets};
-ghost use Rattle.frz_sets.specs.Sound.{IsSound};
+ghost use Rattle.frz_sets.specs.Sound.{IsCounted, IsSound};
 ghost use Rattle.frz_squares.specs.SquareSets.{set_of};
 ghost use Rattle.frz_sets.specs.declared.limits.TheConstants.{MOST_NUMBERS};
 ghost use Rattle.frz_index.specs.Members.{Broken, HasNumber, HasShape, Member, Num};
 ghost use Rattle.frz_index.specs.Partners.{with_black};
 ghost use Rattle.frz_index.specs.Membership.{number_of, position_at};
-ghost use Rattle.frz_index.specs.Candidates.{candidate};
-ghost use Rattle.frz_index.specs.FreeSquares.{is_spread};
+ghost use Rattle.frz_index.specs.Candidates.{candidate, put_group};
+ghost use Rattle.frz_index.specs.FreeSquares.{is_group_free, is_spread};
 ghost use Rattle.frz_index.specs.Kept.{IsPlan, is_known};
 ghost use Rattle.frz_index.specs.Leaving.{leaves};
 ghost use Rattle.frz_index.specs.TurnStates.{turn_in};
@@ -30,13 +30,14 @@ use crate::among::number_after_step_in;
 use crate::beside::number_beside_in;
 use crate::digits::{number_of_digits, put_loose};
 use crate::fixed::fixed_board;
+use crate::placing::put;
 use crate::plan::{Plan, plan_of};
 use crate::quotient::{left_over, quotient};
 use crate::room::{any_takes_one_more, any_unfilled};
 use crate::turn::{turn_at, turn_number};
 use frz_board::{Colour, Man, Move, NoMemory, Position, Square, cell_of, target_in_place};
 use frz_fide::{Bitboards, contains, without};
-use frz_sets::Rules;
+use frz_sets::{Group, Rules};
 use std::alloc::Global;
 use std::marker::Model;
 
@@ -348,6 +349,24 @@ impl Set {
         ensures turn { (p : Board) → HasNumber self.now i p → p.turn ≡ result }
     {
         mover_in(&self.plan, i)
+    }
+
+    /// The side to move and the en passant target of a turn state.
+    pub fn turn_state(&self, n: u32) -> (Colour, Option<Square>)
+        ensures { result ≡ turn_in (targets self.now) n }
+    {
+        turn_at(&self.plan.targets, n)
+    }
+
+    /// Puts on the board the men that a digit of the group stands for. It stops at the first man
+    /// whose square is not empty, and answers `false`; it answers `true` if all could be put.
+    pub fn put_men(&self, p: &mut Bitboards, group: &Group, digit: u32) -> bool
+        requires { IsCounted group.now }
+        ensures free { result ≡ is_group_free group.now digit p.old.cells }
+        ensures put { result ≡ true →
+            p.new ≡ record p.old { cells = put_group group.now digit p.old.cells } }
+    {
+        put(p, &self.plan.triangle, group, digit)
     }
 
     /// The number of the same men with Black to move, given the number of a position with White to

@@ -124,7 +124,7 @@ king_on_board c s earlier (g ∷ gs) (d ∷ ds) sound e =
     ]
 
 -- what groups without kings know all groups know
-known_too : (gs : List GroupLine) (x s : ℕ) → has_state (others gs) x s ≡ true →
+pub known_too : (gs : List GroupLine) (x s : ℕ) → has_state (others gs) x s ≡ true →
     has_state gs x s ≡ true
 known_too [] x s h = h
 known_too (g ∷ gs) x s h =

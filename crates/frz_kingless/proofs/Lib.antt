@@ -4,8 +4,10 @@ mod CarriedMen
 mod OnlyPosition
 mod KnownKings
 mod Emptied
-mod Searching
+mod KnownPairs
 mod LivePairs
 mod MembersByKings
+mod DigitBoards
+mod OneGroupMore
 -- Other crates cite the module Lemmas alone.
 pub mod Lemmas

@@ -16,7 +16,7 @@ use Rattle.frz_kingless.specs.Boards.{AreLive, HasNoPosition, IsBoardOf, are_kno
 use Rattle.frz_kingless.proofs.KingGroups.{has_number, king_on_board, split_there}
 use Rattle.frz_kingless.proofs.KnownKings.{known_king, known_state}
 use Rattle.frz_kingless.proofs.OnlyPosition.{are_empty, is_that}
-use Rattle.frz_kingless.proofs.Searching.{on_black, on_white, split_known}
+use Rattle.frz_kingless.proofs.KnownPairs.{on_black, on_white, split_known}
 
 pub none_live : (r : RuleLines) (c : ℕ) (empty : List ℕ) → IsSound r →
     IsPlaneOf empty (λ a b. false) → HasNoPosition r.groups c → AreLive r.groups c empty

@@ -31,7 +31,7 @@ use Rattle.frz_king_planes.proofs.Lemmas.{Crowned, crowned}
 use Rattle.frz_kingless.specs.Boards.{IsBoardOf}
 use Rattle.frz_kingless.proofs.CarriedMen.{carried, some_passes}
 use Rattle.frz_kingless.proofs.KingGroups.{king_on_board, one_king}
-use Rattle.frz_kingless.proofs.OtherMen.{no_king_cell, none_passes}
+use Rattle.frz_kingless.proofs.OtherMen.{all_others, no_king_cell, none_passes}
 
 -- the king that a position's digits give stands
 kings_stand : (q : Board) (c : Colour) (s : ℕ) (earlier gs : List GroupLine) →
@@ -167,16 +167,6 @@ module _ (r : RuleLines) (q : Board) (i c a b : ℕ) (sound : IsSound r)
   pub lb : b < 64
   lb = king_on_board Black b [] gs split.ds sound.lines.groups split.black
 
-  counts_of_others : (x : Board) (xs : List GroupLine) → AllByRecursion (IsWithinCount x) xs →
-      AllByRecursion (IsWithinCount x) (others xs)
-  counts_of_others x [] h = h
-  counts_of_others x (g ∷ xs) h =
-      elim (has_kings g) as
-      (λ t. AllByRecursion (IsWithinCount x) (cond (not t) (g ∷ others xs) (others xs))) [
-        | true ↦ counts_of_others x xs h.1
-        | false ↦ (h.0, counts_of_others x xs h.1)
-      ]
-
   pub own_configuration : c ≡ configuration_of gs q
   own_configuration =
       split.configuration
@@ -215,7 +205,7 @@ module _ (r : RuleLines) (q : Board) (i c a b : ℕ) (sound : IsSound r)
     one_configuration =
         same_digits (other_radices gs) (turn_of q ∷ map (digit_of q) (others gs))
         (turn_of p ∷ map (digit_of p) (others gs))
-        (turn_fits gs q m, digits_are q (others gs) (counts_of_others q gs m.counts))
+        (turn_fits gs q m, digits_are q (others gs) (all_others (IsWithinCount q) gs m.counts))
         (board.below, digits_are p (others gs) board.counts)
         (sym own_configuration ∙ sym board.configuration)
 
@@ -230,7 +220,7 @@ module _ (r : RuleLines) (q : Board) (i c a b : ℕ) (sound : IsSound r)
         slice_index q.cells s ≡ slice_index p.cells s
     from_board s l some =
         carried p q (others gs) (slice_index p.cells s) s board.counts
-        (counts_of_others q gs m.counts) (sym other_men) refl (board.men s l some)
+        (all_others (IsWithinCount q) gs m.counts) (sym other_men) refl (board.men s l some)
 
     empty_below : (d : Colour) (s : ℕ) → s < 64 → has q d King s ≡ true →
         slice_index p.cells s ≡ 0
@@ -257,7 +247,7 @@ module _ (r : RuleLines) (q : Board) (i c a b : ℕ) (sound : IsSound r)
           | inl none ↦ elim (cases_eq (slice_index q.cells s) 0) [
             | inl e ↦ e ∙ sym none
             | inr some ↦ sym (carried q p (others gs) (slice_index q.cells s) s
-                (counts_of_others q gs m.counts) board.counts other_men refl
+                (all_others (IsWithinCount q) gs m.counts) board.counts other_men refl
                 (other_known [] gs (slice_index q.cells s) s sound.lines.groups
                 (no_other_king s l na nb) (m.men s l some)))
           ]

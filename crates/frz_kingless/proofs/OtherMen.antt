@@ -1,7 +1,7 @@
 -- Groups without kings count the same men on a board with kings and without.
 use Rattle.std.proofs.Common.{◌≡◌, ℕ, ◌<◌, zero, suc, Bool, true, false, not, cond, Option, None, Some, List, [], ◌∷◌, length, map, refl, ap, ◌∙◌, arith}
 use Rattle.std.specs.Prelude.{◌==◌}
-use Rattle.std.specs.List.{list_any, slice_get}
+use Rattle.std.specs.List.{AllByRecursion, list_any, slice_get}
 use Rattle.std.proofs.lemmas.Bool.{false_from_ne_true}
 use Rattle.std.proofs.lemmas.List.Folds.{list_any_at}
 use Rattle.std.proofs.lemmas.Option.{get_or_from_slice_get, slice_get_within}
@@ -19,6 +19,17 @@ use Rattle.frz_index.specs.Places.{IsWithinCount, digit_of, places, stands}
 use Rattle.frz_configurations.specs.Configurations.{has_kings, others}
 use Rattle.frz_king_planes.specs.Kings.{are_free, king_cell, with_kings}
 use Rattle.frz_king_planes.proofs.Lemmas.{same_test}
+
+-- what holds of all groups holds of those without kings
+pub all_others : (P : GroupLine → Type 0) (gs : List GroupLine) → AllByRecursion P gs →
+    AllByRecursion P (others gs)
+all_others P [] h = h
+all_others P (g ∷ gs) h =
+    elim (has_kings g) as
+    (λ t. AllByRecursion P (cond (not t) (g ∷ others gs) (others gs))) [
+      | true ↦ all_others P gs h.1
+      | false ↦ (h.0, all_others P gs h.1)
+    ]
 
 -- no other man has a king's number
 pub no_king_cell : (c d : Colour) (k : Kind) → (number_of_kind k == 1) ≡ false →

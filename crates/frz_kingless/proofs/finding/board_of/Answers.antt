@@ -1,102 +1,68 @@
-use Rattle.std.proofs.Common.{ℕ, ◌+◌, ◌*◌, ◌≡◌, ◌∙◌, List, Option, ap, arith, refl, slice_set, subst, sym}
-use Rattle.std.specs.Prelude.{IsNone}
-use Rattle.frz_board.specs.declared.man.Colour.TheVariants.{White, Black}
+use Rattle.std.proofs.Common.{◌≡◌, ℕ, ◌/◌, ◌%◌, ◌<◌, ◌∙◌, List, Option, ap, map, refl, replicate, subst, sym}
 use Rattle.frz_board.specs.Boards.{Board}
+use Rattle.frz_board.specs.declared.man.Colour.{Colour}
+use Rattle.frz_combinations.specs.MixedRadix.{digits, product}
+use Rattle.frz_sets.specs.Sets.{radix_of, targets}
 use Rattle.frz_sets.specs.Views.{GroupLine}
-use Rattle.frz_index.specs.Members.{Broken, HasNumber}
-use Rattle.frz_planes.specs.Planes.{HasNoneFrom, IsNext}
-use Rattle.frz_configurations.specs.Configurations.{IsSplit}
-use Rattle.frz_configurations.specs.Joined.{IsKingSquare}
+use Rattle.frz_index.specs.Candidates.{no_men, put_groups}
+use Rattle.frz_index.specs.FreeSquares.{are_groups_free}
+use Rattle.frz_index.specs.TurnStates.{turn_in}
+use Rattle.frz_configurations.specs.Configurations.{configuration_count, others}
 use Rattle.frz_kingless.specs.Boards.{HasNoPosition, IsBoardOf}
-use Rattle.frz_kingless.proofs.Emptied.{is_board}
-use Rattle.frz_kingless.proofs.Searching.{NoneBelow, black_square, none_at_all, none_more, of_groups, white_square}
+use Rattle.frz_kingless.proofs.DigitBoards.{made, none_made, own_digits_of}
+use Rattle.frz_kingless.proofs.finding.board_of.Goals.{After-put_others}
 use Rattle.frz_kingless.proofs.finding.board_of.Goals as goal
 
-pub number-number-requires-clause-white : goal.number-number-requires-clause-white
-number-number-requires-clause-white c =
-    let r = c.args.configurations.now.rules.now in
-    let pairs = c.known_pairs-pairs.result in
-    let next : IsNext pairs c.loop-a.n c.in-Some.a c.in-Some.b = c.in-Some.ensures in
-    let P : ℕ → Type 0 = λ s. IsKingSquare r.groups White s in
-    subst P (sym c.at-white.ensures)
-    (white_square r c.requires.sound c.args.configuration pairs
-    (of_groups c.args.set.now r.groups pairs c.requires.set c.known_pairs-pairs.ensures) c.loop-a.n
-    c.in-Some.a c.in-Some.b next)
+empty_is : replicate 64 0 ≡ no_men
+unfolding no_men
+empty_is = refl
 
-pub number-number-requires-clause-black : goal.number-number-requires-clause-black
-number-number-requires-clause-black c =
-    let r = c.args.configurations.now.rules.now in
-    let pairs = c.known_pairs-pairs.result in
-    let next : IsNext pairs c.loop-a.n c.in-Some.a c.in-Some.b = c.in-Some.ensures in
-    let P : ℕ → Type 0 = λ s. IsKingSquare r.groups Black s in
-    subst P (sym c.at-black.ensures)
-    (black_square r c.requires.sound c.args.configuration pairs
-    (of_groups c.args.set.now r.groups pairs c.requires.set c.known_pairs-pairs.ensures) c.loop-a.n
-    c.in-Some.a c.in-Some.b next)
+inside : (c : After-put_others) →
+    c.args.configuration < configuration_count c.args.configurations.now.rules.now.groups
+inside c = subst (λ gs. c.args.configuration < configuration_count gs) c.requires.set c.requires.inside
 
-pub returns-in-Some-boards_at : goal.returns-in-Some-boards_at
-returns-in-Some-boards_at c =
-    let r = c.args.configurations.now.rules.now in
-    let q = c.in-Some-boards_at.p in
-    let i = c.number-number.result in
-    let H : List GroupLine → Type 0 = λ gs. HasNumber gs i q in
-    let has : HasNumber r.groups i q =
-    subst H c.requires.set ((c.boards_at.ensures.exact q).0 c.in-Some-boards_at.is) in
-    let board = is_board r q i c.args.configuration c.at-white.result c.at-black.result
-    c.requires.sound c.number-number.ensures has in
-    let G : List GroupLine → Type 0 = λ gs.
-    IsBoardOf gs c.args.configuration c.put-in-Some-boards_at.result in
-    let B : Board → Type 0 = IsBoardOf r.groups c.args.configuration in
-    let emptied = c.put-in-Some-boards_at.ensures
-    ∙ ap (λ (x : Board). let y : Board = record x { cells = slice_set x.cells c.at-black.result 0 } in y)
-    c.put.ensures in
-    subst G (sym c.requires.set) (subst B (sym emptied) board)
+-- the digits that were taken, on the board that was empty
+free_is : (c : After-put_others) → c.put_others.result
+    ≡ are_groups_free (others c.args.configurations.now.rules.now.groups)
+    (own_digits_of c.args.configurations.now.rules.now.groups c.args.configuration) no_men
+free_is c =
+    let os = others c.args.configurations.now.rules.now.groups in
+    let n = c.args.configuration in
+    c.put_others.ensures.free
+    ∙ ap (λ w. are_groups_free os (digits (map radix_of os) (n % w)) c.empty-p.result.cells)
+    c.whole-whole.ensures
+    ∙ ap (λ (b : Board). are_groups_free os
+    (own_digits_of c.args.configurations.now.rules.now.groups n) b.cells) c.empty-p.ensures
+    ∙ ap (are_groups_free os (own_digits_of c.args.configurations.now.rules.now.groups n)) empty_is
 
-pub loop-a-preserved : goal.loop-a-preserved
-loop-a-preserved c =
+pub returns-then-put_others : goal.returns-then-put_others
+returns-then-put_others c =
     let r = c.args.configurations.now.rules.now in
-    let gs = c.args.set.now in
-    let k = c.args.configuration in
-    let pairs = c.known_pairs-pairs.result in
-    let i = c.number-number.result in
-    let a = c.in-Some.a in
-    let b = c.in-Some.b in
-    let next : IsNext pairs c.loop-a.n a b = c.in-Some.ensures in
-    let white = next.white in
-    let black = next.black in
-    let from = c.from.ensures in
-    let more = c.from-in-Some.ensures in
-    let N : Option Board → Type 0 = IsNone in
-    let F : List GroupLine → Type 0 = λ xs. Broken xs i in
-    let broken : Broken r.groups i =
-    subst F c.requires.set
-    (c.boards_at.ensures.broken.0 (subst N (sym c.in_default-boards_at.is) refl)) in
-    let W : ℕ → Type 0 = λ s. IsSplit r.groups i k s c.at-black.result in
-    let V : ℕ → Type 0 = λ s. IsSplit r.groups i k a s in
-    let at : IsSplit r.groups i k a b =
-    subst V c.at-black.ensures (subst W c.at-white.ensures c.number-number.ensures) in
-    let L : List GroupLine → Type 0 = λ xs. NoneBelow xs k c.loop-a.n in
-    let below = subst L c.requires.set c.loop-a.invariant.1 in
-    let M : List GroupLine → Type 0 = λ xs. NoneBelow xs k (64 * a + b + 1) in
-    let same : 64 * a + b + 1 ≡ 64 * c.from.result + c.from-in-Some.result + 1 = omega arith in (
-      omega arith,
-      subst (NoneBelow gs k) same
-          (subst M (sym c.requires.set)
-          (none_more r c.requires.sound k pairs
-          (of_groups gs r.groups pairs c.requires.set c.known_pairs-pairs.ensures) c.loop-a.n i a b below
-          next at broken)),
-    )
+    let gs = r.groups in
+    let os = others gs in
+    let n = c.args.configuration in
+    let p = c.put_others.new.p in
+    let here = (goal.at.returns-then-put_others c).After-put_others in
+    let put = c.put_others.ensures.put c.if-put_others.true in
+    let cells : p.cells ≡ put_groups os (own_digits_of gs n) no_men =
+    ap (λ (b : Board). b.cells) put
+    ∙ ap (λ w. put_groups os (digits (map radix_of os) (n % w)) c.empty-p.result.cells)
+    c.whole-whole.ensures
+    ∙ ap (λ (b : Board). put_groups os (own_digits_of gs n) b.cells) c.empty-p.ensures
+    ∙ ap (put_groups os (own_digits_of gs n)) empty_is in
+    let turn : turn_in (targets gs) (n / product (map radix_of os)) ≡ (p.turn, p.ep) =
+    sym (ap (λ (b : Board). let x : Colour × Option ℕ = (b.turn, b.ep) in x) put
+    ∙ ap (λ (b : Board). let x : Colour × Option ℕ = (b.turn, b.ep) in x) c.empty-p.ensures
+    ∙ c.turn_state-turn.ensures
+    ∙ ap (λ (xs : List GroupLine). turn_in (targets xs) (n / c.whole-whole.result)) c.requires.set
+    ∙ ap (λ w. turn_in (targets gs) (n / w)) c.whole-whole.ensures) in
+    subst (λ (xs : List GroupLine). IsBoardOf xs n p) (sym c.requires.set)
+    (made r c.requires.sound n (inside here) p cells turn
+    (sym (free_is here) ∙ c.if-put_others.true))
 
-pub returns : goal.returns
-returns c =
-    let r = c.args.configurations.now.rules.now in
-    let gs = c.args.set.now in
-    let k = c.args.configuration in
-    let pairs = c.known_pairs-pairs.result in
-    let end : HasNoneFrom pairs c.loop-a.n = c.in_default.ensures in
-    let L : List GroupLine → Type 0 = λ xs. NoneBelow xs k c.loop-a.n in
-    let P : List GroupLine → Type 0 = λ xs. HasNoPosition xs k in
-    subst P (sym c.requires.set)
-    (none_at_all r c.requires.sound k pairs
-    (of_groups gs r.groups pairs c.requires.set c.known_pairs-pairs.ensures) c.loop-a.n
-    (subst L c.requires.set c.loop-a.invariant.1) end)
+pub returns-else-put_others : goal.returns-else-put_others
+returns-else-put_others c =
+    let here = (goal.at.returns-else-put_others c).After-put_others in
+    subst (λ (xs : List GroupLine). HasNoPosition xs c.args.configuration) (sym c.requires.set)
+    (none_made c.args.configurations.now.rules.now c.requires.sound c.args.configuration (inside here)
+    (sym (free_is here) ∙ c.if-put_others.false))

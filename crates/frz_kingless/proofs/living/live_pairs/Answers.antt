@@ -2,7 +2,7 @@ use Rattle.std.proofs.Common.{List, subst, sym}
 use Rattle.frz_sets.specs.Views.{GroupLine}
 use Rattle.frz_kingless.specs.Boards.{AreLive, HasNoPosition, IsBoardOf}
 use Rattle.frz_kingless.proofs.LivePairs.{are_live, none_live}
-use Rattle.frz_kingless.proofs.Searching.{of_groups}
+use Rattle.frz_kingless.proofs.KnownPairs.{of_groups}
 use Rattle.frz_kingless.proofs.living.live_pairs.Goals as goal
 
 pub returns-in-None : goal.returns-in-None
