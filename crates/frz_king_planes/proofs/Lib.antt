@@ -1,6 +1,7 @@
 -- Other crates cite the module Lemmas alone.
 pub mod Lemmas
 mod Rows
+mod Exchanges
 mod OpenSquares
 mod Crowned
 mod AttackedPast

@@ -3,3 +3,4 @@ pub mod Kings
 pub mod Attacked
 pub mod Room
 pub mod Valid
+pub mod Turning
