@@ -21,7 +21,7 @@ use Rattle.frz_fide.proofs.Lemmas.{own_colour}
 use Rattle.frz_planes.specs.Planes.{has_pair, IsPlaneOf}
 use Rattle.frz_king_planes.specs.Kings.{king_cell, with_kings}
 use Rattle.frz_king_planes.specs.Attacked.{AreAttacked, is_attacked_past}
-use Rattle.frz_king_planes.proofs.Crowned.{Crowned, crowned}
+use Rattle.frz_king_planes.proofs.Crowned.{Crowned, crowned, free_parts}
 use Rattle.frz_king_planes.proofs.OpenSquares.{hits, passes}
 
 -- what is_between asks of the squares a and b and one between them, by their files and ranks apart:
@@ -224,17 +224,24 @@ module _ (p q : Board) (c : Colour) (s t : ℕ) (lt : t < 64) (w : Crowned p q c
       (λ h. let man = some_square (hits q s by) h in attacker man.square man.on_board man.passes)
       stays
 
+-- the plane has the pairs of an empty square and another at which a king on the one is attacked
+abbrev AreFirst : Board → Colour → List ℕ → Type 0
+AreFirst p side pairs =
+    (s t : ℕ) → s < 64 → t < 64 → is_empty p s ≡ true →
+    has_pair pairs s t ≡ (is_attacked_past p s side t || is_king_step s t)
+
 -- a plane of such pairs has the squares of White's king first
 pub for_white : (p : Board) (side : Colour) (pairs : List ℕ) → length p.cells ≡ 64 → side ≡ Black →
-    IsPlaneOf pairs (λ s t. is_attacked_past p s side t || is_king_step s t) →
-    AreAttacked p White pairs
+    AreFirst p side pairs → AreAttacked p White pairs
 for_white p side pairs size e h a b la lb free =
-    h a b la lb ∙ ap (λ d. is_attacked_past p a d b || is_king_step a b) e
+    h a b la lb (eq-eqb (slice_index p.cells a) 0 (free_parts p a b free).white) ∙ ap (λ d. is_attacked_past p a d b || is_king_step a b) e
     ∙ sym (attacked_past p (with_kings p a b) White a b lb (crowned p a b White size la lb free))
 
 pub for_black : (p : Board) (side : Colour) (pairs plane : List ℕ) → length p.cells ≡ 64 →
-    side ≡ White → IsPlaneOf pairs (λ s t. is_attacked_past p s side t || is_king_step s t) →
+    side ≡ White → AreFirst p side pairs →
     IsPlaneOf plane (λ a b. has_pair pairs b a) → AreAttacked p Black plane
 for_black p side pairs plane size e h turn a b la lb free =
-    turn a b la lb ∙ h b a lb la ∙ ap (λ d. is_attacked_past p b d a || is_king_step b a) e
+    turn a b la lb
+    ∙ h b a lb la (eq-eqb (slice_index p.cells b) 0 (free_parts p a b free).black)
+    ∙ ap (λ d. is_attacked_past p b d a || is_king_step b a) e
     ∙ sym (attacked_past p (with_kings p a b) Black b a la (crowned p a b Black size la lb free))

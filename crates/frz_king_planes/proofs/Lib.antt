@@ -3,6 +3,7 @@ pub mod Lemmas
 mod Rows
 mod Exchanges
 mod OpenSquares
+mod JoinedAttacks
 mod Crowned
 mod AttackedPast
 mod Rooms

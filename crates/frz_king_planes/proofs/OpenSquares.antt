@@ -1,14 +1,13 @@
 -- The squares that do not shield a square from the men that attack it, gathered man by man.
-use Rattle.std.proofs.Common.{◌≡◌, ℕ, ◌+◌, ◌<◌, ◌≤◌, Bool, true, false, ◌&&◌, ◌||◌, not, bit_or, w64, refl, ap, sym, ◌∙◌, arith, inl, inr}
-use Rattle.std.specs.Int.{bit_not}
-use Rattle.std.proofs.lemmas.Bool.{cases_eq, cases_lt, and_parts, and_left, or_left, or_right, or_from, false_from_ne_true}
+use Rattle.std.proofs.Common.{◌≡◌, ℕ, ◌+◌, ◌<◌, ◌≤◌, Bool, true, false, ◌&&◌, ◌||◌, not, refl, ap, sym, ◌∙◌, arith, inl, inr}
+use Rattle.std.proofs.lemmas.Bool.{cases_eq, cases_lt, or_left, or_right, or_from, false_from_ne_true}
 use Rattle.frz_board.specs.declared.man.Colour.{Colour}
 use Rattle.frz_board.specs.Boards.{Board, holds}
 use Rattle.frz_board.specs.Lines.{is_between}
 use Rattle.frz_board.specs.Attacks.{attacks}
 use Rattle.frz_squares.specs.SquareSets.{has_square, set_of}
 use Rattle.frz_squares.specs.Words.{HasNoneFrom, IsNext}
-use Rattle.frz_squares.proofs.Lemmas.{has-or, has-not, has-set_of, has-zero, set_of-small, some_square, any_square}
+use Rattle.frz_squares.proofs.Lemmas.{has-set_of, some_square, any_square}
 use Rattle.frz_king_planes.specs.Attacked.{is_attacked_past}
 
 -- the man on m attacks s
@@ -25,58 +24,57 @@ pub record IsOpen (p : Board) (s : ℕ) (by : Colour) (n w : ℕ) : Type 0 where
   pub only : (t : ℕ) → t < 64 → ((m : ℕ) → m < n → passes p s by t m ≡ false) →
       has_square w t ≡ false
 
-pub none_yet : (p : Board) (s : ℕ) (by : Colour) → IsOpen p s by 0 0
-none_yet p s by = record {
+pub none_yet : (p : Board) (s : ℕ) (by : Colour) (w : ℕ) →
+    ((t : ℕ) → t < 64 → has_square w t ≡ false) → IsOpen p s by 0 w
+none_yet p s by w empty = record {
   some = λ t m lt lm h. absurd (omega arith);
-  only = λ t lt h. has-zero t;
+  only = λ t lt h. empty t lt;
 }
 
 same_by_both : (x y : Bool) → (y ≡ true → x ≡ true) → (y ≡ false → x ≡ false) → x ≡ y
 same_by_both x true h k = h refl
 same_by_both x false h k = k refl
 
-module _ (p : Board) (s : ℕ) (by : Colour) (men : ℕ) (are : men ≡ set_of (hits p s by)) where
-  is_man : (m : ℕ) → m < 64 → has_square men m ≡ hits p s by m
-  is_man m l = ap (λ w. has_square w m) are ∙ has-set_of (hits p s by) m l
+module _ (p : Board) (s : ℕ) (by : Colour) (men : ℕ) (are : men ≡ set_of (holds p by)) where
+  is_man : (m : ℕ) → m < 64 → has_square men m ≡ holds p by m
+  is_man m l = ap (λ w. has_square w m) are ∙ has-set_of (holds p by) m l
 
   no_pass : (t m : ℕ) → m < 64 → has_square men m ≡ false → passes p s by t m ≡ false
-  no_pass t m l h = and_left (hits p s by m) (not (is_between m t s)) (sym (is_man m l) ∙ h)
+  no_pass t m l h =
+      ap (λ x. (x && attacks p m s) && not (is_between m t s)) (sym (is_man m l) ∙ h)
 
-  module _ (n m w shut : ℕ) (next : IsNext men n m) (is : shut ≡ set_of (λ t. is_between m t s))
-      (before : IsOpen p s by n w) where
-    added : (t : ℕ) → t < 64 →
-        has_square (bit_or w (bit_not w64 shut)) t ≡ (has_square w t || not (is_between m t s))
-    added t l =
-        ap (λ v. has_square (bit_or w (bit_not w64 v)) t) is
-        ∙ has-or w (bit_not w64 (set_of (λ t. is_between m t s))) t
-        ∙ ap (λ x. has_square w t || x)
-        (has-not (set_of (λ t. is_between m t s)) t (set_of-small (λ t. is_between m t s)) l
-        ∙ ap not (has-set_of (λ t. is_between m t s) t l))
+  module _ (n m v w : ℕ) (next : IsNext men n m) (before : IsOpen p s by n v)
+      (added : (t : ℕ) → t < 64 →
+      has_square w t ≡ (has_square v t || (attacks p m s && not (is_between m t s)))) where
+    stands : holds p by m ≡ true
+    stands = sym (is_man m next.on_board) ∙ next.there
+
+    passes_by : (t : ℕ) → passes p s by t m ≡ (attacks p m s && not (is_between m t s))
+    passes_by t = ap (λ x. (x && attacks p m s) && not (is_between m t s)) stands
 
     still : (t k : ℕ) → t < 64 → k < m + 1 → passes p s by t k ≡ true →
-        (has_square w t || not (is_between m t s)) ≡ true
+        (has_square v t || (attacks p m s && not (is_between m t s))) ≡ true
     still t k lt lk h =
         elim (cases_lt k n) [
-          | inl i ↦ or_left (has_square w t) (not (is_between m t s)) (before.some t k lt i h)
+          | inl i ↦ or_left (has_square v t) (attacks p m s && not (is_between m t s))
+              (before.some t k lt i h)
           | inr i ↦ elim (cases_eq k m) [
-            | inl e ↦ or_right (has_square w t) (not (is_between m t s))
-                (ap (λ j. not (is_between j t s)) (sym e)
-                ∙ (and_parts (hits p s by k) (not (is_between k t s)) h).1)
+            | inl e ↦ or_right (has_square v t) (attacks p m s && not (is_between m t s))
+                (sym (passes_by t) ∙ ap (passes p s by t) (sym e) ∙ h)
             | inr e ↦ absurd (let on = next.on_board in
                 let no = no_pass t k (omega arith) (next.first k i (omega arith)) in cc)
           ]
         ]
 
     none : (t : ℕ) → t < 64 → ((k : ℕ) → k < m + 1 → passes p s by t k ≡ false) →
-        (has_square w t || not (is_between m t s)) ≡ false
+        (has_square v t || (attacks p m s && not (is_between m t s))) ≡ false
     none t lt h =
         let from = next.from in
-        or_from (has_square w t) (not (is_between m t s))
+        or_from (has_square v t) (attacks p m s && not (is_between m t s))
         (before.only t lt (λ k l. h k (omega arith)))
-        (ap (λ x. x && not (is_between m t s)) (sym next.there ∙ is_man m next.on_board)
-        ∙ h m (omega arith))
+        (sym (passes_by t) ∙ h m (omega arith))
 
-    pub one_more : IsOpen p s by (m + 1) (bit_or w (bit_not w64 shut))
+    pub one_more : IsOpen p s by (m + 1) w
     one_more = record {
       some = λ t k lt lk h. added t lt ∙ still t k lt lk h;
       only = λ t lt h. added t lt ∙ none t lt h;

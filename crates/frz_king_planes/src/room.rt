@@ -8,7 +8,7 @@ ghost use Rattle.frz_king_planes.specs.Room.{is_room};
 use frz_bits::{Bitboards, replaced};
 
 /// The empty squares.
-fn empty_squares(p: &Bitboards) -> u64
+pub(crate) fn empty_squares(p: &Bitboards) -> u64
     ensures { (s : ℕ) → s < 64 → has_square result s ≡ is_empty p.now s }
 {
     !p.occupied()
