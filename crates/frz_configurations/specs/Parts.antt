@@ -9,13 +9,18 @@ use Rattle.frz_combinations.specs.MixedRadix.{AreDigits, product, value}
 use Rattle.frz_sets.specs.Groups.{has_king_group}
 use Rattle.frz_sets.specs.Sets.{radix_of}
 use Rattle.frz_sets.specs.Views.{GroupLine}
-use Rattle.frz_configurations.specs.Configurations.{king_state, other_digits, others}
+use Rattle.frz_configurations.specs.Configurations.{has_kings, king_state, other_digits, others}
 use Rattle.frz_configurations.specs.declared.parts.Parts.{Parts}
 
 -- each digit of the group is a state, which is a king's
 pub record AreKings (g : GroupLine) : Type 0 where
   pub each : radix_of g ≡ length g.states
   pub kings : (k : ℕ) (state : Kind × ℕ) → slice_get g.states k ≡ Some state → state.0 ≡ King
+
+-- each group with kings has kings alone
+abbrev pub HaveKingsAlone : List GroupLine → Type 0
+HaveKingsAlone gs =
+    (k : ℕ) (g : GroupLine) → slice_get gs k ≡ Some g → has_kings g ≡ true → AreKings g
 
 -- the square of the colour's king
 abbrev pub square_of : Parts → Colour → ℕ

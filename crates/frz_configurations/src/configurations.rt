@@ -10,7 +10,7 @@ ghost use Rattle.frz_sets.specs.Views.{GroupLine};
 ghost use Rattle.frz_index.specs.Kept.{AreNumberable};
 ghost use Rattle.frz_configurations.specs.Configurations.{IsSplit, configuration_count, has_kings as holds_kings, others};
 ghost use Rattle.frz_configurations.specs.Joined.{IsJoined, IsKingSquare};
-ghost use Rattle.frz_configurations.specs.Parts.{IsParted};
+ghost use Rattle.frz_configurations.specs.Parts.{HaveKingsAlone, IsParted};
 
 use crate::joined::{Joined, nothing, put};
 use crate::parts::{Parts, has_kings, taken, whole};
@@ -24,6 +24,7 @@ pub struct Configurations<'a> {
     pub rules: &'a Rules,
     radices: Vec<u32>,
     ghost known: { radices.items ≡ map radix_of rules.now.groups },
+    ghost kings: { HaveKingsAlone rules.now.groups },
 }
 
 /// A number taken apart: its configuration, and the squares of the kings.

@@ -20,11 +20,15 @@ pub(crate) struct Parts {
     pub black: Square,
 }
 
-/// Are some of the group's states those of a king?
+/// Are the group's states those of a king? Either all are or none, so the first one tells.
 pub(crate) fn has_kings(group: &Group) -> bool
+    requires { holds_kings group.now ≡ true → AreKings group.now }
     ensures { result ≡ holds_kings group.now }
 {
-    group.states.iter().any(|state| state.0 == Kind::King)
+    match group.states.first() {
+        None => false,
+        Some(state) => state.0 == Kind::King,
+    }
 }
 
 /// The number before any group is looked at.

@@ -3,13 +3,12 @@
 ghost use Rattle.std.specs.Prelude.{◌≡◌, ◌<◌, IfOk};
 ghost use Rattle.frz_board.specs.declared.man.Colour.TheVariants.{White, Black};
 ghost use Rattle.frz_sets.specs.Sound.{IsSound};
-ghost use Rattle.frz_configurations.specs.Configurations.{IsSplit, configuration_count};
+ghost use Rattle.frz_configurations.specs.Configurations.{IsSplit, configuration_count, has_kings};
 ghost use Rattle.frz_configurations.specs.Joined.{IsKingSquare, of_colour};
 ghost use Rattle.frz_configurations.specs.Shares.{AreFirst, AreMoved, AreShares, allows_king, has_king as holds_king, is_king_square as is_square};
 
 use crate::configurations::{Configurations, Split};
 use crate::joined::square_of;
-use crate::parts::has_kings;
 use frz_board::{Colour, Kind, NoMemory, Square};
 use frz_sets::{Group, Rules};
 use std::alloc::{AllocError, Global};
@@ -26,6 +25,13 @@ pub struct Shares<'a> {
     ghost known: { AreShares rules.now.groups configurations.items white black },
 }
 
+/// Are some of the group's states those of a king?
+fn has_some_king(group: &Group) -> bool
+    ensures { result ≡ has_kings group.now }
+{
+    group.states.iter().any(|state| state.0 == Kind::King)
+}
+
 /// Is a king on the square among the states of the group?
 fn has_king(group: &Group, square: Square) -> bool
     ensures { result ≡ holds_king group.now square }
@@ -40,7 +46,7 @@ fn has_king(group: &Group, square: Square) -> bool
 fn allows(group: &Group, colour: Colour, square: Square) -> bool
     ensures { result ≡ allows_king colour square group.now }
 {
-    !(group.colour == colour && has_kings(group)) || has_king(group, square)
+    !(group.colour == colour && has_some_king(group)) || has_king(group, square)
 }
 
 /// Has each group of kings of the colour one on the square?
