@@ -1,5 +1,6 @@
 -- Planes of pairs on the board of a configuration, as sets of numbers.
-use Rattle.std.proofs.Common.{◌≡◌, ◌↔◌, ℕ, ◌<◌, true, false, None, List, inl, inr, refl, subst}
+use Rattle.std.proofs.Common.{◌≡◌, ◌↔◌, ◌∙◌, ℕ, ◌<◌, true, false, None, List, [], arith, get_or, inl, inr, length, refl, subst, sym}
+use Rattle.std.proofs.lemmas.List.{get_or_default}
 use Rattle.frz_board.specs.Boards.{Board}
 use Rattle.frz_sets.specs.Sound.{IsSound}
 use Rattle.frz_sets.specs.Views.{RuleLines}
@@ -7,15 +8,16 @@ use Rattle.frz_arena.proofs.Lemmas.{cases_Option}
 use Rattle.frz_index.specs.Members.{Num}
 use Rattle.frz_index.specs.Membership.{position_at}
 use Rattle.frz_index.proofs.Lemmas.{position_tells}
-use Rattle.frz_configurations.specs.Configurations.{IsSplit}
+use Rattle.frz_configurations.specs.Configurations.{IsSplit, configuration_count}
 use Rattle.frz_planes.specs.Planes.{IsPlaneOf, has_pair}
 use Rattle.frz_king_planes.specs.Kings.{with_kings}
 use Rattle.frz_kingless.specs.Boards.{AreLive, HasNoPosition, IsBoardOf}
 use Rattle.frz_kingless.proofs.Lemmas.{known_there, made_split}
 use Rattle.frz_plane_arms.specs.Arms.{MakesMember}
+use Rattle.frz_plane_arms.specs.MenArms.{AreAllLive}
 use Rattle.frz_plane_game.specs.Spots.{HasNumbers}
 use Rattle.frz_plane_chess.specs.Spots.{spot_of, spots_of}
-use Rattle.frz_plane_chess.proofs.Placing.{is_spot, placed}
+use Rattle.frz_plane_chess.proofs.Placing.{is_spot, on_board, placed}
 use Rattle.frz_plane_chess.proofs.Positions.{makes}
 
 module _ (r : RuleLines) (p : Board) (c : ℕ) (sound : IsSound r) (board : IsBoardOf r.groups c p) where
@@ -56,6 +58,15 @@ module _ (r : RuleLines) (p : Board) (c : ℕ) (sound : IsSound r) (board : IsBo
         is_spot r (Num r.groups (with_kings p a b)) c a b (made_number a b m));
   }
 
+-- the live pairs that are read at a configuration
+pub live_read : (r : RuleLines) (lives : List (List ℕ)) (c : ℕ) (live : List ℕ) →
+    AreAllLive r.groups lives → length lives ≡ configuration_count r.groups →
+    c < configuration_count r.groups → live ≡ get_or lives c live → AreLive r.groups c live
+live_read r lives c live are many inside read =
+    let low : c < length lives = omega arith in
+    subst (λ (xs : List ℕ). AreLive r.groups c xs)
+    (sym (read ∙ get_or_default lives c live [] low)) (are c inside)
+
 -- no number of a configuration without positions has one
 pub none_at : (r : RuleLines) (c i a b : ℕ) → HasNoPosition r.groups c → IsSplit r.groups i c a b →
     position_at r.groups i ≡ None
@@ -66,6 +77,15 @@ none_at r c i a b none split =
           let h = position_tells r.groups i some.0 some.1 in
           absurd (none i a b split some.0 h.member h.number))
     ]
+
+-- a configuration without live pairs has no position
+pub none_live : (r : RuleLines) (c : ℕ) (live : List ℕ) → IsSound r → AreLive r.groups c live →
+    IsPlaneOf live (λ a b. false) → HasNoPosition r.groups c
+none_live r c live sound are empty i a b split p member number =
+    let on = on_board r i c a b sound split in
+    let there = (are.there i a b split).1 (p, record { member = member; number = number }) in
+    let none = empty a b on.0 on.1 in
+    absurd cc
 
 pub no_numbers : (r : RuleLines) (c : ℕ) (plane : List ℕ) (Q : ℕ → Type 0) → IsSound r →
     HasNoPosition r.groups c → IsPlaneOf plane (λ a b. false) →

@@ -95,6 +95,9 @@ fn row_of<B: ExitBook>(
     ensures { IfOk result
         (IsRow configurations.now.rules.now (B.value_at book.now) configuration) }
 {
+    if lives[configuration as usize].is_empty() {
+        return Ok(None);
+    }
     match board_of(set, configurations, configuration) {
         None => Ok(None),
         Some(p) => {

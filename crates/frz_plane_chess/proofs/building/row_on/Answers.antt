@@ -7,23 +7,20 @@ use Rattle.frz_kingless.specs.Boards.{AreLive}
 use Rattle.frz_plane_arms.specs.Inner.{AreBelow}
 use Rattle.frz_plane_exits.specs.Exits.{AreExits, HasLivePairs}
 use Rattle.frz_plane_exits.specs.declared.exit_plane.ExitPlane.{ExitPlane}
+use Rattle.frz_plane_chess.proofs.BoardNumbers.{live_read}
 use Rattle.frz_plane_chess.proofs.building.row_on.Goals as goal
 
 pub exits_of-requires-clause-live : goal.exits_of-requires-clause-live
 exits_of-requires-clause-live g c =
-    let gs = c.args.configurations.now.rules.now.groups in
+    let r = c.args.configurations.now.rules.now in
     let k = c.args.configuration in
     let lives = c.args.lives.now in
     let live = c.index-lives-configuration.result in
-    let many = c.requires.many in
-    let inside = c.requires.inside in
-    let low : k < length lives = omega arith in
-    let read : live ≡ slice_index_or lives k [] =
-    c.index-lives-configuration.is ∙ get_or_default lives k live [] low in
-    let has : HasLivePairs gs c.args.p.now live = record {
+    let has : HasLivePairs r.groups c.args.p.now live = record {
       configuration = k;
       board = c.requires.board;
-      are_live = subst (λ (xs : List ℕ). AreLive gs k xs) (sym read) (c.requires.live k inside);
+      are_live = live_read r lives k live c.requires.live c.requires.many c.requires.inside
+          c.index-lives-configuration.is;
     } in
     subst (λ (x : List GroupLine). HasLivePairs x c.args.p.now live) (sym c.requires.set) has
 
@@ -35,12 +32,8 @@ returns g c =
     let k = c.args.configuration in
     let lives = c.args.lives.now in
     let live = c.index-lives-configuration.result in
-    let many = c.requires.many in
-    let inside = c.requires.inside in
-    let low : k < length lives = omega arith in
-    let read : live ≡ slice_index_or lives k [] =
-    c.index-lives-configuration.is ∙ get_or_default lives k live [] low in
-    let are = subst (λ (xs : List ℕ). AreLive r.groups k xs) (sym read) (c.requires.live k inside) in
+    let are = live_read r lives k live c.requires.live c.requires.many c.requires.inside
+    c.index-lives-configuration.is in
     let inner = c.in_ok-moves.ensures.inner in
     let exits = c.in-Ok.ensures in
     let any = c.moving-any.ensures value p k c.requires.sound c.requires.board are c.requires.live
