@@ -1,9 +1,6 @@
-use Rattle.std.proofs.Common.{List, [], arith, length, subst, sym, ℕ, ◌<◌, ◌≡◌, ◌∙◌}
-use Rattle.std.specs.List.{slice_index_or}
-use Rattle.std.proofs.lemmas.List.{get_or_default}
+use Rattle.std.proofs.Common.{List, subst, sym}
 use Rattle.frz_sets.specs.Views.{GroupLine}
 use Rattle.frz_configurations.specs.Configurations.{configuration_count}
-use Rattle.frz_kingless.specs.Boards.{AreLive}
 use Rattle.frz_plane_arms.specs.Inner.{AreBelow}
 use Rattle.frz_plane_exits.specs.Exits.{AreExits, HasLivePairs}
 use Rattle.frz_plane_exits.specs.declared.exit_plane.ExitPlane.{ExitPlane}
