@@ -13,6 +13,7 @@ mod led;
 mod men;
 mod taking;
 mod target;
+mod touching;
 #[cfg(test)]
 mod tests;
 
@@ -23,3 +24,4 @@ pub use led::leading_men;
 pub use men::{ManArm, men_arms};
 pub use taking::{KingArm, king_arms, leading_captures};
 pub use target::target_of;
+pub use touching::touches;

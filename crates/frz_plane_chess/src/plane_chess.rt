@@ -11,11 +11,12 @@ ghost use Rattle.frz_plane_chess.specs.Spots.{spots_of};
 use crate::building::{all_lives, all_rows};
 use crate::moving::leading;
 use crate::row::Row;
-use crate::winning::greatest_lag_of;
+use crate::winning::{greatest_lag_of, wins_out};
 use frz_board::{Colour, NoMemory, Square};
 use frz_configurations::{Configurations, Shares};
 use frz_exits::ExitBook;
 use frz_index::Set;
+use frz_plane_arms::touches;
 use frz_plane_game::{PlaneGame, Target};
 use frz_planes::Plane;
 use std::alloc::Global;
@@ -151,6 +152,20 @@ impl<B: ExitBook> PlaneGame for PlaneChess<'_, B> {
                 let live = &self.lives[configuration as usize];
                 leading(rules, row, live, &self.lives, only_free, target, into)
             }
+        }
+    }
+
+    fn touches(&self, configuration: u32, marks: &[bool]) -> bool {
+        match self.row(configuration) {
+            None => false,
+            Some(row) => touches(&row.moves, marks),
+        }
+    }
+
+    fn wins_out(&self, configuration: u32, side: Colour, lag: u32) -> bool {
+        match self.row(configuration) {
+            None => false,
+            Some(row) => wins_out(&row.exits, side, lag),
         }
     }
 

@@ -23,6 +23,23 @@ fn winning_lag(value: Value, side: Colour) -> u32
     }
 }
 
+/// Is the value a win of the side, with this lag?
+fn is_win_with(value: Value, side: Colour, after: u32) -> bool
+{
+    class(value, side) == Class::Good && lag(value) == after
+}
+
+/// Is one of the exits a win of the side, with this lag?
+pub(crate) fn wins_out(exits: &[ExitPlane], side: Colour, lag: u32) -> bool
+{
+    for exit in exits {
+        if is_win_with(exit.value, side, lag) {
+            return true;
+        }
+    }
+    false
+}
+
 /// At least the lag of each exit that wins for the side, if it is at most 1,000 plies.
 fn greatest_winning_lag(exits: &[ExitPlane], side: Colour) -> u32
     ensures within { HasLagsWithin exits.now side result }

@@ -1,6 +1,6 @@
 //! What a solver by planes asks of a restricted game.
 
-ghost use Rattle.std.specs.Prelude.{◌≡◌, ◌≢◌, ◌≤◌, ◌<◌, ◌↔◌, ℕ, ⊤, length, IsTrue};
+ghost use Rattle.std.specs.Prelude.{◌≡◌, ◌≢◌, ◌≤◌, ◌<◌, ◌↔◌, ℕ, ⊤, length, false, IsTrue};
 ghost use Rattle.frz_board.specs.Moving.{Step};
 ghost use Rattle.frz_board.specs.declared.man.Colour.{Colour as ColourSpec};
 ghost use Rattle.frz_sets.specs.declared.exit.Value.{Value};
@@ -9,7 +9,7 @@ ghost use Rattle.frz_arena.specs.Arena.{Arena};
 ghost use Rattle.frz_arena.specs.Plies.{LagsWithin};
 ghost use Rattle.frz_graph.specs.Finite.{IsFinite};
 ghost use Rattle.frz_plane_game.specs.Spots.{AreSpots, HasNumbers, IsSpot, IsTurnOf, Spots};
-ghost use Rattle.frz_plane_game.specs.Targets.{LeadsInto, SomeMove};
+ghost use Rattle.frz_plane_game.specs.Targets.{LeadsInto, LeadsToMarked, NoMoveLeads, SomeMove, WinsOut};
 
 use crate::target::Target;
 use frz_board::Colour;
@@ -86,6 +86,22 @@ pub trait PlaneGame {
             (λ i. SomeMove (arena self.now) only_free i (λ next. IsTrue into
             ↔ LeadsInto (arena self.now) (spots self.now) target.now.planes.now target.now.side
             target.now.exits next)) };
+
+    /// May a move of the configuration lead to one of the marked configurations?
+    fn touches(&self, configuration: u32, marks: &[bool]) -> bool
+        requires sound { sound self.now }
+        requires inside { configuration < (spots self.now).configurations }
+        requires many { length marks.now ≡ (spots self.now).configurations }
+        ensures { result ≡ false → NoMoveLeads (arena self.now) (spots self.now) configuration
+            (LeadsToMarked (spots self.now) marks.now) };
+
+    /// May a move of the configuration lead out to an exit that wins for the side, with this lag
+    /// and no other?
+    fn wins_out(&self, configuration: u32, side: Colour, lag: u32) -> bool
+        requires sound { sound self.now }
+        requires inside { configuration < (spots self.now).configurations }
+        ensures { result ≡ false → NoMoveLeads (arena self.now) (spots self.now) configuration
+            (WinsOut (arena self.now) side lag) };
 
     /// At least the lag of each exit that wins for the side, in plies.
     fn greatest_lag(&self, side: Colour) -> u32

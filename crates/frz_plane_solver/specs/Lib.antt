@@ -1,3 +1,4 @@
--- What the solver by planes keeps from ply to ply.
+-- What the solver by planes decides.
 pub mod Decided
+pub mod Marks
 pub mod Walks

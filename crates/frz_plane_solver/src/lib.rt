@@ -5,7 +5,7 @@ mod fill;
 mod passes;
 mod plies;
 mod reach;
-mod room;
+mod marked;
 mod settle;
 
 pub use passes::solve;

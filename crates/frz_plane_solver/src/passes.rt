@@ -3,13 +3,13 @@
 ghost use Rattle.std.specs.Prelude.{◌≡◌, ◌≤◌, ℕ, length, slice_index, IfOk};
 ghost use Rattle.frz_arena.specs.Bounds.{IsCodeAt};
 ghost use Rattle.frz_arena.specs.Plies.{LagsWithin};
+ghost use Rattle.frz_plane_solver.specs.Marks.{AreAllMarked, AreFor};
 ghost use Rattle.frz_plane_solver.specs.Walks.{IsSolvedTo};
 
+use crate::marked::MarkedPlanes;
 use crate::plies::{advance, begin};
-use crate::room::empty_planes;
 use frz_board::{Colour, NoMemory};
 use frz_plane_game::PlaneGame;
-use frz_planes::Plane;
 use std::alloc::Global;
 
 /// Goes on until a ply adds nothing and no lag is longer, so that no exit that wins for the side is
@@ -18,15 +18,15 @@ fn go_on<G: PlaneGame>(
     game: &G,
     side: Colour,
     lag: u32,
-    won: &mut [Plane],
-    lost: &mut [Plane],
-    more: &mut [Plane],
+    won: &mut MarkedPlanes,
+    lost: &mut MarkedPlanes,
+    more: &mut MarkedPlanes,
     codes: &mut [u32],
 )
     requires sound { G.sound game.now }
     requires within { LagsWithin (G.arena game.now) side lag }
     requires small { lag ≤ 1000 }
-    requires room { length more.old ≡ (G.spots game.now).configurations }
+    requires room { AreFor (G.spots game.now).configurations more.old }
     requires solved { IsSolvedTo (G.arena game.now) (G.spots game.now) side 0 won.old lost.old
         codes.old }
     ensures { (i : ℕ) → IsCodeAt (G.arena game.now) side i (slice_index codes.new i) }
@@ -45,15 +45,18 @@ fn go_on<G: PlaneGame>(
 fn solve_from_zero<G: PlaneGame>(
     game: &G,
     side: Colour,
-    won: &mut [Plane],
-    lost: &mut [Plane],
-    more: &mut [Plane],
+    won: &mut MarkedPlanes,
+    lost: &mut MarkedPlanes,
+    more: &mut MarkedPlanes,
     codes: &mut [u32],
 )
     requires sound { G.sound game.now }
-    requires many_won { length won.old ≡ (G.spots game.now).configurations }
-    requires many_lost { length lost.old ≡ (G.spots game.now).configurations }
-    requires room { length more.old ≡ (G.spots game.now).configurations }
+    requires won { AreFor (G.spots game.now).configurations won.old
+        × AreAllMarked (G.spots game.now).configurations won.old }
+    requires lost { AreFor (G.spots game.now).configurations lost.old
+        × AreAllMarked (G.spots game.now).configurations lost.old }
+    requires room { AreFor (G.spots game.now).configurations more.old
+        × AreAllMarked (G.spots game.now).configurations more.old }
     requires many { length codes.old ≡ (G.spots game.now).numbers }
     requires zero { (i : ℕ) → slice_index codes.old i ≡ 0 }
     ensures { (i : ℕ) → IsCodeAt (G.arena game.now) side i (slice_index codes.new i) }
@@ -76,9 +79,9 @@ pub fn solve<G: PlaneGame>(alloc: Global, game: &G, side: Colour) -> Result<Vec<
         return Err(NoMemory);
     };
     let many = game.configurations();
-    let mut won = empty_planes(alloc, many)?;
-    let mut lost = empty_planes(alloc, many)?;
-    let mut more = empty_planes(alloc, many)?;
+    let mut won = MarkedPlanes::new(alloc, many)?;
+    let mut lost = MarkedPlanes::new(alloc, many)?;
+    let mut more = MarkedPlanes::new(alloc, many)?;
     solve_from_zero(game, side, &mut won, &mut lost, &mut more, &mut codes);
     Ok(codes)
 }

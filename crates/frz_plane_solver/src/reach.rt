@@ -1,10 +1,11 @@
 //! The numbers of one configuration that a ply decides.
 
-ghost use Rattle.std.specs.Prelude.{◌≡◌, ◌<◌, ◌+◌, ℕ, length, not, if◌then◌else◌};
+ghost use Rattle.std.specs.Prelude.{◌≡◌, ◌<◌, ◌+◌, ℕ, length, false, not, if◌then◌else◌};
 ghost use Rattle.frz_board.specs.Men.{same_colour};
 ghost use Rattle.frz_plane_game.specs.Spots.{HasNumbers, HaveNumbers};
 ghost use Rattle.frz_plane_game.specs.Targets.{LeadsInto};
 ghost use Rattle.frz_plane_solver.specs.Decided.{Decided, DecidedAt, MovesTo, worth_of};
+ghost use Rattle.frz_plane_solver.specs.Marks.{MarksLast};
 
 use frz_board::Colour;
 use frz_plane_game::{Exits, PlaneGame, Target};
@@ -52,6 +53,30 @@ fn reaching<G: PlaneGame>(game: &G, configuration: u32, target: &Target<'_>, win
     let mut plane = game.moving(configuration, own);
     plane.without(&game.leading(configuration, own, target, false));
     plane
+}
+
+/// May one ply more than `plies` decide a number of the configuration? The marks tell in which ones
+/// the last ply did. The first one may decide any; a later one only numbers with a move to what the
+/// last one decided, or to an exit that wins with a lag of `plies`.
+pub fn may_decide<G: PlaneGame>(
+    game: &G,
+    side: Colour,
+    win: bool,
+    plies: u32,
+    configuration: u32,
+    marks: &[bool],
+) -> bool
+    requires sound { G.sound game.now }
+    requires inside { configuration < (G.spots game.now).configurations }
+    requires many { length marks.now ≡ (G.spots game.now).configurations }
+    requires last { MarksLast (G.arena game.now) (G.spots game.now) side win plies marks.now }
+    ensures { result ≡ false → (i : ℕ) → i < (G.spots game.now).numbers →
+        ((G.spots game.now).at i).configuration ≡ configuration →
+        DecidedAt (G.arena game.now) side win (plies + 1) i → ⊥ }
+{
+    plies == 0
+        || game.touches(configuration, marks)
+        || (win && game.wins_out(configuration, side, plies))
 }
 
 /// The numbers of the configuration that are decided within one ply more than `plies`, and within

@@ -1,11 +1,13 @@
 //! Codes put at the numbers of planes.
 
-ghost use Rattle.std.specs.Prelude.{◌≡◌, ◌<◌, ℕ, length, true, false};
+ghost use Rattle.std.specs.Prelude.{◌≡◌, ◌<◌, ℕ, length, true};
 ghost use Rattle.frz_planes.specs.Planes.{has_pair};
 ghost use Rattle.frz_plane_game.specs.Spots.{IsSpot, plane_at};
 ghost use Rattle.frz_plane_solver.specs.Decided.{ArePut};
+ghost use Rattle.frz_plane_solver.specs.Marks.{AreFor, marked_planes};
 ghost use Rattle.frz_plane_solver.specs.Walks.{IsIn};
 
+use crate::marked::MarkedPlanes;
 use frz_plane_game::PlaneGame;
 use frz_planes::Plane;
 
@@ -28,31 +30,19 @@ fn settle<G: PlaneGame>(game: &G, configuration: u32, plane: &Plane, code: u32, 
     }
 }
 
-/// Puts the code at each number of the planes.
-pub fn settle_all<G: PlaneGame>(game: &G, planes: &[Plane], code: u32, codes: &mut [u32])
+/// Puts the code at each number of the marked planes.
+pub fn settle_all<G: PlaneGame>(game: &G, marked: &MarkedPlanes, code: u32, codes: &mut [u32])
     requires sound { G.sound game.now }
-    requires wide { length planes.now ≡ (G.spots game.now).configurations }
+    requires size { AreFor (G.spots game.now).configurations marked.now }
     requires many { length codes.old ≡ (G.spots game.now).numbers }
     requires only { (c a b : ℕ) → c < (G.spots game.now).configurations → a < 64 → b < 64 →
-        has_pair (plane_at planes.now c) a b ≡ true → IsSpot (G.spots game.now) c a b }
-    ensures { ArePut (IsIn (G.spots game.now) planes.now) code codes.old codes.new }
+        has_pair (plane_at (marked_planes marked.now) c) a b ≡ true →
+        IsSpot (G.spots game.now) c a b }
+    ensures { ArePut (IsIn (G.spots game.now) (marked_planes marked.now)) code codes.old codes.new }
 {
     for c in 0..game.configurations() {
-        settle(game, c, &planes[c as usize], code, codes);
-    }
-}
-
-/// Has any of the planes a pair?
-pub fn has_any(planes: &[Plane]) -> bool
-    ensures none { result ≡ false → (c a b : ℕ) → c < length planes.now → a < 64 → b < 64 →
-        has_pair (plane_at planes.now c) a b ≡ false }
-    ensures some { result ≡ true → (c : ℕ) × (a : ℕ) × (b : ℕ) × (c < length planes.now)
-        × (a < 64) × (b < 64) × (has_pair (plane_at planes.now c) a b ≡ true) }
-{
-    for c in 0..planes.len() {
-        if planes[c].next_pair(0).is_some() {
-            return true;
+        if marked.marks[c as usize] {
+            settle(game, c, &marked.planes[c as usize], code, codes);
         }
     }
-    false
 }
