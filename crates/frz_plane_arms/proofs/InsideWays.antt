@@ -74,16 +74,17 @@ module _ (r : RuleLines) (p : Board) (only_free into : Bool) (planes : List (Lis
       ∙ ap (λ (x : Option Kind). record { from = king_square p.turn a b; to = m.to; promo = x })
       (promo_none m step legal p.turn refl from)
 
-  -- the king goes to a square, where the men that he leaves are those of a configuration
-  record Enters : Type 0 where
-    square : ℕ
-    on_board : square < 64
-    target : ℕ
-    board : IsBoardOf r.groups target (entered p square)
-    leads : KingLeads r.groups (lines_of r only_free) p (slice_index_or planes target []) into a b square
+  -- the king goes to a square, where the men that he leaves are those of configuration k
+  pub record Enters (k : ℕ) : Type 0 where
+    pub square : ℕ
+    pub on_board : square < 64
+    pub target : ℕ
+    pub same : k ≡ target
+    pub board : IsBoardOf r.groups target (entered p square)
+    pub leads : KingLeads r.groups (lines_of r only_free) p (slice_index_or planes target []) into a b square
 
-  enters : (w : LeadsInside r p only_free into planes a b) →
-      w.step.from ≡ king_square p.turn a b → Enters
+  pub enters : (w : LeadsInside r p only_free into planes a b) →
+      w.step.from ≡ king_square p.turn a b → Enters w.configuration
   enters w from =
       let s : ℕ = w.step.to in
       let ls : s < 64 = w.is_step.to in
@@ -105,6 +106,7 @@ module _ (r : RuleLines) (p : Board) (only_free into : Bool) (planes : List (Lis
         square = s;
         on_board = ls;
         target = d;
+        same = same.0;
         board = board;
         leads = record {
           legal = legal;
@@ -117,6 +119,16 @@ module _ (r : RuleLines) (p : Board) (only_free into : Bool) (planes : List (Lis
               ∙ w.there;
         };
       }
+
+  -- a man's step leads to the configuration of the board after it
+  pub man_goes : (w : LeadsInside r p only_free into planes a b) →
+      holds p p.turn w.step.from ≡ true → IsBoardOf r.groups w.configuration (after p w.step)
+  man_goes w own =
+      let stands = man_stands r p w.step a b sound here w.is_step own w.legal in
+      let at = stands.member.0 w.inside in
+      let same = one_split r.groups (Num r.groups (after q w.step)) w.configuration at.0 w.white
+      w.black a b w.number (stands.number at.0 at.1) in
+      subst (λ (k : ℕ). IsBoardOf r.groups k (after p w.step)) (sym same.0) at.1
 
   man_leads : (w : LeadsInside r p only_free into planes a b) → holds p p.turn w.step.from ≡ true →
       ManLeads r only_free p planes into a b
@@ -139,9 +151,20 @@ module _ (r : RuleLines) (p : Board) (only_free into : Bool) (planes : List (Lis
             ∙ w.there;
       }
 
-  king_ways : CellsFit p.cells → Enters →
+  -- to a square of a man of the other side, or to an empty one
+  pub enemy_there : CellsFit p.cells → (k : ℕ) (e : Enters k) → is_empty p e.square ≡ false →
+      holds p (other_of p.turn) e.square ≡ true
+  enemy_there fits k e full =
+      let s : ℕ = e.square in
+      of_other p.turn (man_on p s)
+      (cell_has_man (slice_index p.cells s)
+      (fits.men s 0 (let size = fits.size in let l = e.on_board in omega arith))
+      (eqb-false (slice_index p.cells s) 0 full))
+      (entry p a b s here.white here.black e.on_board now p.turn refl e.leads.legal).free
+
+  king_ways : CellsFit p.cells → (k : ℕ) → Enters k →
       (KingTakes r.groups (lines_of r only_free) p planes into a b) ⊎ KingSteps r.groups (lines_of r only_free) p planes into a b
-  king_ways fits e =
+  king_ways fits k e =
       let s : ℕ = e.square in
       elim (cases_Bool (is_empty p s)) [
         | inl empty ↦ inr (record {
@@ -153,11 +176,7 @@ module _ (r : RuleLines) (p : Board) (only_free into : Bool) (planes : List (Lis
         | inr full ↦ inl (record {
           square = s;
           on_board = e.on_board;
-          taken = of_other p.turn (man_on p s)
-              (cell_has_man (slice_index p.cells s)
-              (fits.men s 0 (let size = fits.size in let l = e.on_board in omega arith))
-              (eqb-false (slice_index p.cells s) 0 full))
-              (entry p a b s here.white here.black e.on_board now p.turn refl e.leads.legal).free;
+          taken = enemy_there fits k e full;
           target = e.target;
           board = e.board;
           leads = e.leads;
@@ -169,6 +188,6 @@ module _ (r : RuleLines) (p : Board) (only_free into : Bool) (planes : List (Lis
       ⊎ ((KingTakes r.groups (lines_of r only_free) p planes into a b) ⊎ KingSteps r.groups (lines_of r only_free) p planes into a b)
   ways fits w =
       elim (mover_is p w.step a b here.white here.black now w.legal) [
-        | inl king ↦ inr (king_ways fits (enters w king))
+        | inl king ↦ inr (king_ways fits w.configuration (enters w king))
         | inr own ↦ inl (man_leads w own)
       ]

@@ -10,18 +10,17 @@ use Rattle.frz_fide.specs.Legal.{after, is_legal}
 use Rattle.frz_sets.specs.Sound.{IsSound}
 use Rattle.frz_sets.specs.Views.{RuleLines}
 use Rattle.frz_exits.specs.Forbidding.{is_free}
-use Rattle.frz_index.specs.Members.{Member}
 use Rattle.frz_configurations.specs.Configurations.{configuration_of}
 use Rattle.frz_king_planes.specs.Kings.{with_kings}
 use Rattle.frz_planes.specs.Planes.{IsPlaneOf, has_pair}
 use Rattle.frz_kingless.specs.Boards.{AreLive, IsBoardOf}
-use Rattle.frz_pair_moves.proofs.Lemmas.{goes_from, legal_man, moved_alike}
+use Rattle.frz_pair_moves.proofs.Lemmas.{goes_from, legal_man}
 use Rattle.frz_plane_arms.specs.Arms.{MakesMember, is_led}
 use Rattle.frz_plane_arms.specs.MenArms.{AreAllLive, AreArms, ManLeads}
 use Rattle.frz_plane_arms.specs.declared.men.ManArm.{ManArm}
 use Rattle.frz_plane_arms.proofs.FreeMen.{forbidden_same}
 use Rattle.frz_plane_arms.proofs.LeadingPairs.{led_back, led_forth}
-use Rattle.frz_plane_arms.proofs.Standing.{made, man_stands}
+use Rattle.frz_plane_arms.proofs.Standing.{made, man_lands, man_stands}
 
 counts_free : (free only_free : Bool) → (free || not only_free) ≡ true → only_free ≡ true →
     free ≡ true
@@ -178,17 +177,9 @@ module _ (arms : List ManArm) (only_free : Bool) (live : List ℕ) (lives planes
         has_pair plane a b ≡ true
     led_back_all k =
         let w = k.1 in
-        let now = made r p a b k.0 in
-        let goes = legal_man p w.step a b w.is_step la lb now w.own w.legal in
-        let member = (man_stands r p w.step a b sound k.0 w.is_step w.own w.legal).member.1
-        (w.target, w.board) in
-        let next : MakesMember r.groups (after p w.step) a b = record {
-          white = la;
-          black = lb;
-          free = goes.2.free;
-          member = subst (Member r.groups)
-              (moved_alike p w.step a b w.is_step la lb now goes.0 goes.1) member;
-        } in
+        let goes = legal_man p w.step a b w.is_step la lb (made r p a b k.0) w.own w.legal in
+        let next = man_lands r p w.step a b k.0 w.is_step w.own w.legal
+        ((man_stands r p w.step a b sound k.0 w.is_step w.own w.legal).member.1 (w.target, w.board)) in
         let has = all.all w.step a b w.is_step goes.0 next in
         let is = all.each has.place has.arm has.there in
         let step : IsStep has.arm.step = subst IsStep (sym has.step) w.is_step in

@@ -52,6 +52,21 @@ man_stands r p m a b sound h step own legal =
     stands r (after (with_kings p a b) m) (after p m) a b sound h.white h.black
     (moved_alike p m a b step h.white h.black now goes.0 goes.1) goes.2 (known r p a b sound h)
 
+-- if it is in the set, so is the position of the kings on the board after the step
+pub man_lands : (r : RuleLines) (p : Board) (m : Step) (a b : ℕ) → MakesMember r.groups p a b →
+    IsStep m → holds p p.turn m.from ≡ true → is_legal (with_kings p a b) m ≡ true →
+    Member r.groups (after (with_kings p a b) m) → MakesMember r.groups (after p m) a b
+man_lands r p m a b h step own legal member =
+    let now = made r p a b h in
+    let goes = legal_man p m a b step h.white h.black now own legal in
+    record {
+      white = h.white;
+      black = h.black;
+      free = goes.2.free;
+      member = subst (Member r.groups)
+          (moved_alike p m a b step h.white h.black now goes.0 goes.1) member;
+    }
+
 module _ (r : RuleLines) (p : Board) (m : Step) (b : ℕ) (sound : IsSound r) (white : p.turn ≡ White)
     (h : MakesMember r.groups p m.from b) (step : IsStep m)
     (legal : is_legal (with_kings p m.from b) m ≡ true) where

@@ -14,3 +14,4 @@ mod Lags
 mod Pushed
 -- Other crates cite the module Lemmas alone.
 pub mod Lemmas
+mod Changes

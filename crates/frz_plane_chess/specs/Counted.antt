@@ -68,3 +68,9 @@ abbrev pub HasLagsWithin : List ExitPlane → Colour → ℕ → Type 0
 HasLagsWithin exits side most =
     (v : Value) (free : Bool) (a b : ℕ) → HasExit exits v free a b → lag_of v ≤ 1000 →
     class_of v side ≡ Good → lag_of v ≤ most
+
+-- none of the exits is a win of the side with this lag
+abbrev pub HasNoWinWith : List ExitPlane → Colour → (lag : ℕ) → Type 0
+HasNoWinWith exits side lag =
+    (v : Value) (free : Bool) (a b : ℕ) → HasExit exits v free a b → class_of v side ≡ Good →
+    lag_of v ≡ lag → ⊥

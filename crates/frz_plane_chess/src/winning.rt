@@ -1,9 +1,9 @@
 //! The lags of exits that win for a side.
 
-ghost use Rattle.std.specs.Prelude.{◌≡◌, ◌≤◌, Some, length};
+ghost use Rattle.std.specs.Prelude.{◌≡◌, ◌≤◌, ◌↔◌, Some, IsTrue, false, length};
 ghost use Rattle.frz_arena.specs.declared.class.Class.TheVariants.{Good};
 ghost use Rattle.frz_exits.specs.Values.{class_of, lag_of};
-ghost use Rattle.frz_plane_chess.specs.Counted.{HasLagsWithin};
+ghost use Rattle.frz_plane_chess.specs.Counted.{HasLagsWithin, HasNoWinWith};
 ghost use Rattle.frz_plane_chess.specs.Rows.{HaveLagsWithin};
 ghost use Rattle.frz_plane_chess.specs.declared.row.Row.{Row as RowSpec};
 
@@ -24,13 +24,15 @@ fn winning_lag(value: Value, side: Colour) -> u32
 }
 
 /// Is the value a win of the side, with this lag?
-fn is_win_with(value: Value, side: Colour, after: u32) -> bool
+fn is_win_with(value: Value, side: Colour, plies: u32) -> bool
+    ensures { IsTrue result ↔ ((class_of value side ≡ Good) × (lag_of value ≡ plies)) }
 {
-    class(value, side) == Class::Good && lag(value) == after
+    class(value, side) == Class::Good && lag(value) == plies
 }
 
 /// Is one of the exits a win of the side, with this lag?
 pub(crate) fn wins_out(exits: &[ExitPlane], side: Colour, lag: u32) -> bool
+    ensures { result ≡ false → HasNoWinWith exits.now side lag }
 {
     for exit in exits {
         if is_win_with(exit.value, side, lag) {

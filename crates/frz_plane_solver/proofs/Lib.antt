@@ -6,3 +6,6 @@ mod Putting
 mod Telling
 mod AllNumbers
 mod NextTold
+mod Marks
+mod Joining
+mod Unchanged

@@ -22,7 +22,8 @@ use Rattle.frz_plane_solver.specs.Decided.{Decided, DecidedAt, MovesTo, worth_of
 use Rattle.frz_plane_solver.proofs.Moves.{going_is, is_other, is_own, other_differs}
 use Rattle.frz_plane_solver.proofs.Numbers.{numbers_without, same_numbers}
 
-moves_same : (arena : Arena Step ℕ Value) (side : Colour) (win : Bool) (L M : Next ℕ Value → Type 0)
+-- the same moves lead there
+pub moves_same : (arena : Arena Step ℕ Value) (side : Colour) (win : Bool) (L M : Next ℕ Value → Type 0)
     (i : ℕ) → ((a : Arm Step ℕ Value) → IsArm arena i a → L a.next → M a.next) →
     MovesTo arena side win L i → MovesTo arena side win M i
 moves_same arena side true L M i f (inl w) = inl (w.0, (w.1.0, w.1.1, w.1.2, f w.1.0 w.1.1 w.1.3))
@@ -40,7 +41,8 @@ abbrev pub LeadsNext : Arena Step ℕ Value → Colour → Bool → ℕ → Next
 LeadsNext arena side win n =
     LeadsTo (Decided arena side win n) (HasWorth arena side (worth_of win n))
 
-next_is : (arena : Arena Step ℕ Value) (side : Colour) (win : Bool) (n i : ℕ) →
+-- what one ply more decides
+pub next_is : (arena : Arena Step ℕ Value) (side : Colour) (win : Bool) (n i : ℕ) →
     Decided arena side win (n + 1) i
     ↔ (Decided arena side win n i ⊎ MovesTo arena side win (LeadsNext arena side win n) i)
 next_is arena side true n i =

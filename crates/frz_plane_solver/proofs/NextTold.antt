@@ -8,8 +8,10 @@ use Rattle.frz_arena.specs.Arena.{Arena}
 use Rattle.frz_arena.specs.Plies.{FailsWithin, WinsWithin}
 use Rattle.frz_arena.proofs.Lemmas.{broken_never_fails, broken_never_wins, fails_later, never_both, wins_later}
 use Rattle.frz_sweep.specs.Told.{AreTold, IsTold}
-use Rattle.frz_plane_game.specs.Spots.{AreSpots, HaveNumbers, Spots}
+use Rattle.frz_plane_game.specs.Spots.{AreSpots, Spots}
+use Rattle.frz_plane_solver.specs.Marks.{IsDecidedTo}
 use Rattle.frz_plane_solver.specs.Walks.{IsSolvedTo}
+use Rattle.frz_plane_solver.specs.declared.marked.MarkedPlanes.{MarkedPlanes}
 use Rattle.frz_plane_solver.specs.Decided.{ArePut, Decided, DecidedAt}
 use Rattle.frz_plane_solver.proofs.AllNumbers.{told_by_planes}
 use Rattle.frz_plane_solver.proofs.Telling.{told_broken, told_failure, told_open, told_still, told_win}
@@ -160,26 +162,24 @@ late_failure arena size side n mid new fails (i, inside, lost) =
 -- the planes and codes after a ply
 pub solved_next : {M V : Type 0} (arena : Arena M ℕ V) (spots : Spots) → AreSpots spots →
     ((i : ℕ) → spots.numbers ≤ i → arena.node i ≡ Broken) → (side : Colour) (n : ℕ)
-    (won lost more_won more_lost : List (List ℕ)) (old mid new : List ℕ) →
-    IsSolvedTo arena spots side n won lost old →
-    length more_won ≡ spots.configurations → length more_lost ≡ spots.configurations →
-    length new ≡ spots.numbers →
-    HaveNumbers spots more_won (Decided arena side true (n + 1)) →
-    HaveNumbers spots more_lost (Decided arena side false (n + 1)) →
+    (won lost next_won next_lost : MarkedPlanes) (old mid new : List ℕ) →
+    IsSolvedTo arena spots side n won lost old → length new ≡ spots.numbers →
+    IsDecidedTo arena spots side true (n + 1) next_won →
+    IsDecidedTo arena spots side false (n + 1) next_lost →
     ArePut (IsNew arena spots.numbers side true (n + 1)) (2 + 2 * (n + 1)) old mid →
     ArePut (IsNew arena spots.numbers side false (n + 1)) (3 + 2 * (n + 1)) mid new →
-    IsSolvedTo arena spots side (n + 1) more_won more_lost new
-solved_next arena spots are past side n won lost more_won more_lost old mid new solved many_won
-    many_lost many wins failures put_wins put_failures =
+    IsSolvedTo arena spots side (n + 1) next_won next_lost new
+solved_next arena spots are past side n won lost next_won next_lost old mid new solved many wins
+    failures put_wins put_failures =
     record {
-      many_won = many_won;
-      many_lost = many_lost;
       many = many;
       wins = wins;
       failures = failures;
       told = ply_told arena spots.numbers past side n old mid new solved.told put_wins put_failures
-          (told_by_planes spots are won (WinsWithin arena side n) solved.wins)
-          (told_by_planes spots are more_won (WinsWithin arena side (n + 1)) wins)
-          (told_by_planes spots are lost (FailsWithin arena side n) solved.failures)
-          (told_by_planes spots are more_lost (FailsWithin arena side (n + 1)) failures);
+          (told_by_planes spots are won.planes.items (WinsWithin arena side n) solved.wins.numbers)
+          (told_by_planes spots are next_won.planes.items (WinsWithin arena side (n + 1)) wins.numbers)
+          (told_by_planes spots are lost.planes.items (FailsWithin arena side n)
+          solved.failures.numbers)
+          (told_by_planes spots are next_lost.planes.items (FailsWithin arena side (n + 1))
+          failures.numbers);
     }

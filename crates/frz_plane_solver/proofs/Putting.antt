@@ -1,5 +1,5 @@
 -- Codes put at the numbers of planes.
-use Rattle.std.proofs.Common.{◌≡◌, ◌⊎◌, ◌∙◌, ◌<◌, ◌≤◌, ◌+◌, ◌*◌, ℕ, true, List, length, slice_index, slice_set, inl, inr, refl, ap, sym, subst, arith}
+use Rattle.std.proofs.Common.{◌≡◌, ◌⊎◌, ◌∙◌, ◌<◌, ◌≤◌, ◌+◌, ◌*◌, ℕ, true, false, List, length, slice_index, slice_set, inl, inr, refl, ap, sym, subst, arith}
 use Rattle.std.proofs.lemmas.Bool.{cases_Bool, cases_lt}
 use Rattle.std.proofs.lemmas.List.{get_or-set_same, get_or-set_other}
 use Rattle.std.specs.Prelude.{MatchOption, None, Option, Some, is_some}
@@ -195,3 +195,8 @@ pub pair_there : (plane : List ℕ) (r : Option (ℕ × ℕ)) → is_some r ≡ 
     (a : ℕ) × (b : ℕ) × IsNext plane 0 a b
 pair_there plane None e next = absurd cc
 pair_there plane (Some (a, b)) e next = (a, b, next)
+
+pub no_pair_there : (plane : List ℕ) (r : Option (ℕ × ℕ)) → is_some r ≡ false →
+    MatchOption r (HasNoneFrom plane 0) (λ (a, b). IsNext plane 0 a b) → HasNoneFrom plane 0
+no_pair_there plane None e none = none
+no_pair_there plane (Some (a, b)) e next = absurd cc

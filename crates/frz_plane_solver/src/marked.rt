@@ -99,6 +99,21 @@ impl MarkedPlanes {
         self.marks.copy_from_slice(&more.marks);
     }
 
+    /// Is the configuration marked, and has its plane a pair?
+    fn has_at(&self, configuration: usize) -> bool
+        requires planes { configuration < length self.now.planes.items }
+        requires marks { length self.now.marks.items ≡ length self.now.planes.items }
+        ensures none { result ≡ false → (a b : ℕ) → a < 64 → b < 64 →
+            has_pair (plane_at (marked_planes self.now) configuration) a b ≡ false }
+        ensures some { result ≡ true → (a : ℕ) × (b : ℕ) × (a < 64) × (b < 64)
+            × (has_pair (plane_at (marked_planes self.now) configuration) a b ≡ true) }
+    {
+        if !self.marks[configuration] {
+            return false;
+        }
+        self.planes[configuration].next_pair(0).is_some()
+    }
+
     /// Has any of the marked planes a pair?
     pub fn has_any(&self) -> bool
         requires { length self.now.marks.items ≡ length self.now.planes.items }
@@ -109,7 +124,7 @@ impl MarkedPlanes {
             × (has_pair (plane_at (marked_planes self.now) c) a b ≡ true) }
     {
         for c in 0..self.planes.len() {
-            if self.marks[c] && self.planes[c].next_pair(0).is_some() {
+            if self.has_at(c) {
                 return true;
             }
         }

@@ -74,9 +74,13 @@ pub fn may_decide<G: PlaneGame>(
         ((G.spots game.now).at i).configuration ≡ configuration →
         DecidedAt (G.arena game.now) side win (plies + 1) i → ⊥ }
 {
-    plies == 0
-        || game.touches(configuration, marks)
-        || (win && game.wins_out(configuration, side, plies))
+    if plies == 0 {
+        return true;
+    }
+    if game.touches(configuration, marks) {
+        return true;
+    }
+    win && game.wins_out(configuration, side, plies)
 }
 
 /// The numbers of the configuration that are decided within one ply more than `plies`, and within

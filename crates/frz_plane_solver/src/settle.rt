@@ -30,6 +30,34 @@ fn settle<G: PlaneGame>(game: &G, configuration: u32, plane: &Plane, code: u32, 
     }
 }
 
+/// Puts the code at each number of the plane of the configuration, if that is marked.
+fn settle_marked<G: PlaneGame>(
+    game: &G,
+    configuration: u32,
+    marked: &MarkedPlanes,
+    code: u32,
+    codes: &mut [u32],
+)
+    requires sound { G.sound game.now }
+    requires inside { configuration < (G.spots game.now).configurations }
+    requires size { AreFor (G.spots game.now).configurations marked.now }
+    requires many { length codes.old ≡ (G.spots game.now).numbers }
+    requires only { (a b : ℕ) → a < 64 → b < 64 →
+        has_pair (plane_at (marked_planes marked.now) configuration) a b ≡ true →
+        IsSpot (G.spots game.now) configuration a b }
+    ensures { let spots = G.spots game.now in
+        let plane = plane_at (marked_planes marked.now) configuration in
+        ArePut (λ i. (i < spots.numbers) × ((spots.at i).configuration ≡ configuration)
+        × (has_pair plane (spots.at i).white (spots.at i).black ≡ true))
+        code codes.old codes.new }
+{
+    let i = configuration as usize;
+    if !marked.marks[i] {
+        return;
+    }
+    settle(game, configuration, &marked.planes[i], code, codes);
+}
+
 /// Puts the code at each number of the marked planes.
 pub fn settle_all<G: PlaneGame>(game: &G, marked: &MarkedPlanes, code: u32, codes: &mut [u32])
     requires sound { G.sound game.now }
@@ -41,8 +69,6 @@ pub fn settle_all<G: PlaneGame>(game: &G, marked: &MarkedPlanes, code: u32, code
     ensures { ArePut (IsIn (G.spots game.now) (marked_planes marked.now)) code codes.old codes.new }
 {
     for c in 0..game.configurations() {
-        if marked.marks[c as usize] {
-            settle(game, c, &marked.planes[c as usize], code, codes);
-        }
+        settle_marked(game, c, marked, code, codes);
     }
 }

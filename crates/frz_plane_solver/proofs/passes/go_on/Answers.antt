@@ -17,6 +17,7 @@ returns-then-lag-plies g c i =
 pub plies-preserved : goal.plies-preserved
 plies-preserved g c = record {
   solved = c.advance-added.ensures.solved;
+  room = c.advance-added.ensures.room;
   few = elim c.else-not-added.either [
     | inl waits ↦ (let l = waits.1 in omega arith)
     | inr added ↦ (

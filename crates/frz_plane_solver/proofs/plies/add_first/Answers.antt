@@ -1,13 +1,30 @@
-use Rattle.std.proofs.Common.{◌<◌, ℕ, subst}
+use Rattle.std.proofs.Common.{◌<◌, ℕ, subst, arith}
 use Rattle.frz_plane_solver.specs.Decided.{ArePut, Decided}
+use Rattle.frz_plane_solver.specs.Marks.{those_marked}
 use Rattle.frz_plane_solver.specs.Walks.{IsIn}
 use Rattle.frz_plane_solver.proofs.AllNumbers.{in_planes}
+use Rattle.frz_plane_solver.proofs.Marks.{all_count, marks_first}
 use Rattle.frz_plane_solver.proofs.Putting.{put_same}
 use Rattle.frz_plane_solver.proofs.plies.add_first.Goals as goal
 
 pub settle_all-requires-clause-only : goal.settle_all-requires-clause-only
 settle_all-requires-clause-only g c k a b l m n t =
-    (c.fill_first.ensures k l).only a b m n t
+    let game = c.args.game.now in
+    (all_count (g.G.PlaneGame.spots game) c.args.decided.now.marks.items c.fill_first.new.planes
+    (Decided (g.G.PlaneGame.arena game) c.args.side c.args.win 0) c.requires.marked
+    c.fill_first.ensures k l).only a b m n t
+
+pub returns-clause-decided : goal.returns-clause-decided
+returns-clause-decided g c =
+    let game = c.args.game.now in
+    let size = c.requires.size in
+    let many = size.planes in
+    record {
+      size = record { planes = omega arith; marks = size.marks };
+      numbers = c.fill_first.ensures;
+      last = marks_first (g.G.PlaneGame.arena game) (g.G.PlaneGame.spots game) c.args.side
+          c.args.win c.args.decided.now.marks.items;
+    }
 
 pub returns-clause-put : goal.returns-clause-put
 returns-clause-put g c =
@@ -15,9 +32,10 @@ returns-clause-put g c =
     let arena = g.G.PlaneGame.arena game in
     let spots = g.G.PlaneGame.spots game in
     let P : ℕ → Type 0 = Decided arena c.args.side c.args.win 0 in
-    let planes = c.fill_first.new.planes in
+    let marks = c.args.decided.now.marks.items in
+    let planes = those_marked marks c.fill_first.new.planes in
     let both = in_planes spots (g.met.G.PlaneGame.placed game c.requires.sound) planes P
-    c.fill_first.ensures in
+    (all_count spots marks c.fill_first.new.planes P c.requires.marked c.fill_first.ensures) in
     subst (λ (z : ℕ). ArePut (λ i. (i < spots.numbers) × P i) z c.args.codes.now
     c.settle_all.new.codes)
     c.code.ensures

@@ -1,23 +1,29 @@
 use Rattle.std.proofs.Common.{◌≡◌, ◌<◌, ℕ}
 use Rattle.frz_arena.specs.declared.node.Node.TheVariants.{Broken}
+use Rattle.frz_plane_solver.specs.Marks.{those_marked}
 use Rattle.frz_plane_solver.specs.Walks.{IsIn}
 use Rattle.frz_plane_solver.proofs.AllNumbers.{in_planes}
+use Rattle.frz_plane_solver.proofs.Marks.{all_count}
 use Rattle.frz_plane_solver.proofs.Putting.{put_same}
 use Rattle.frz_plane_solver.proofs.plies.add_live.Goals as goal
 
 pub settle_all-requires-clause-only : goal.settle_all-requires-clause-only
 settle_all-requires-clause-only g c k a b l m n t =
-    (c.fill_live.ensures k l).only a b m n t
+    let game = c.args.game.now in
+    let arena = g.G.PlaneGame.arena game in
+    (all_count (g.G.PlaneGame.spots game) c.args.room.now.marks.items c.fill_live.new.planes
+    (λ i. arena.node i ≡ Broken → ⊥) c.requires.marked c.fill_live.ensures k l).only a b m n t
 
-pub returns : goal.returns
-returns g c =
+pub returns-clause-put : goal.returns-clause-put
+returns-clause-put g c =
     let game = c.args.game.now in
     let arena = g.G.PlaneGame.arena game in
     let spots = g.G.PlaneGame.spots game in
     let P : ℕ → Type 0 = λ i. arena.node i ≡ Broken → ⊥ in
-    let planes = c.fill_live.new.planes in
+    let marks = c.args.room.now.marks.items in
+    let planes = those_marked marks c.fill_live.new.planes in
     let both = in_planes spots (g.met.G.PlaneGame.placed game c.requires.sound) planes P
-    c.fill_live.ensures in
+    (all_count spots marks c.fill_live.new.planes P c.requires.marked c.fill_live.ensures) in
     put_same (IsIn spots planes) (λ i. (i < spots.numbers) × P i) 1 c.args.codes.now
     c.settle_all.new.codes (λ i p. (p.0, (both i p.0).1 p.1)) (λ i h. (h.0, (both i h.0).0 h.1))
     c.settle_all.ensures

@@ -5,34 +5,26 @@ use Rattle.frz_plane_solver.proofs.plies.advance.Goals as goal
 pub returns-then-wins-clause-solved : goal.returns-then-wins-clause-solved
 returns-then-wins-clause-solved g c =
     let game = c.args.game.now in
-    let solved = c.requires.solved in
-    let won = solved.many_won in
-    let lost = solved.many_lost in
-    let many = solved.many in
+    let many = c.requires.solved.many in
     solved_next (g.G.PlaneGame.arena game) (g.G.PlaneGame.spots game)
     (g.met.G.PlaneGame.placed game c.requires.sound)
     (g.met.G.PlaneGame.finite game c.requires.sound).numbered.past c.args.side c.args.plies
-    c.args.won.now c.args.lost.now c.add_ply-wins.new.planes c.add_ply-fails.new.planes
-    c.args.codes.now c.add_ply-wins.new.codes c.add_ply-fails.new.codes solved
-    (omega arith) (omega arith) (omega arith)
-    c.add_ply-wins.ensures.planes c.add_ply-fails.ensures.planes c.add_ply-wins.ensures.put
-    c.add_ply-fails.ensures.put
+    c.args.won.now c.args.lost.now c.add_ply-wins.new.decided c.add_ply-fails.new.decided
+    c.args.codes.now c.add_ply-wins.new.codes c.add_ply-fails.new.codes c.requires.solved
+    (omega arith) c.add_ply-wins.ensures.decided c.add_ply-fails.ensures.decided
+    c.add_ply-wins.ensures.put c.add_ply-fails.ensures.put
 
 pub returns-else-wins-clause-solved : goal.returns-else-wins-clause-solved
 returns-else-wins-clause-solved g c =
     let game = c.args.game.now in
-    let solved = c.requires.solved in
-    let won = solved.many_won in
-    let lost = solved.many_lost in
-    let many = solved.many in
+    let many = c.requires.solved.many in
     solved_next (g.G.PlaneGame.arena game) (g.G.PlaneGame.spots game)
     (g.met.G.PlaneGame.placed game c.requires.sound)
     (g.met.G.PlaneGame.finite game c.requires.sound).numbered.past c.args.side c.args.plies
-    c.args.won.now c.args.lost.now c.add_ply-wins.new.planes c.add_ply-fails.new.planes
-    c.args.codes.now c.add_ply-wins.new.codes c.add_ply-fails.new.codes solved
-    (omega arith) (omega arith) (omega arith)
-    c.add_ply-wins.ensures.planes c.add_ply-fails.ensures.planes c.add_ply-wins.ensures.put
-    c.add_ply-fails.ensures.put
+    c.args.won.now c.args.lost.now c.add_ply-wins.new.decided c.add_ply-fails.new.decided
+    c.args.codes.now c.add_ply-wins.new.codes c.add_ply-fails.new.codes c.requires.solved
+    (omega arith) c.add_ply-wins.ensures.decided c.add_ply-fails.ensures.decided
+    c.add_ply-wins.ensures.put c.add_ply-fails.ensures.put
 
 pub returns-then-wins-clause-late : goal.returns-then-wins-clause-late
 returns-then-wins-clause-late g c _ =
