@@ -17,4 +17,4 @@ mod OneSplit
 mod WaysInside
 mod InsideWays
 mod LedInside
-mod Touching
+mod UnmarkedWays
