@@ -10,7 +10,6 @@ use Rattle.frz_fide.specs.Legal.{after}
 use Rattle.frz_sets.specs.Sound.{IsSound}
 use Rattle.frz_sets.specs.Views.{RuleLines}
 use Rattle.frz_configurations.specs.Configurations.{configuration_of}
-use Rattle.frz_king_planes.specs.Kings.{king_square, with_kings}
 use Rattle.frz_kingless.specs.Boards.{IsBoardOf}
 use Rattle.frz_pair_moves.specs.Kings.{black_then, handed, white_then}
 use Rattle.frz_pair_moves.specs.Moves.{entered}

@@ -13,9 +13,9 @@ mod led;
 mod men;
 mod taking;
 mod target;
-mod touching;
 #[cfg(test)]
 mod tests;
+mod touching;
 
 pub use inner::{InnerMoves, inner_moves};
 pub use inside::leading_inside;

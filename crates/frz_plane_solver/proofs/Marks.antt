@@ -97,17 +97,17 @@ pub marks_last : (arena : Arena Step ℕ Value) (spots : Spots) → AreSpots spo
 marks_last arena spots are side win n planes more marks have new = record {
   before = λ i k inside same unmarked d.
       elim ((all_decided arena side win n i
-          (told_by_planes spots are planes (Decided arena side win n) have i inside)).1 d) [
-            | inl old ↦ (let is : n ≡ k = omega arith in
-                subst (λ (z : ℕ). Decided arena side win z i) is old)
-            | inr at ↦ (
-                let s = spots.at i in
-                let is_so = (in_planes spots are (those_marked marks more)
-                (DecidedAt arena side win (n + 1)) new i inside).1 at in
-                let is_not = ap (λ (p : List ℕ). has_pair p s.white s.black)
-                (none_there marks more s.configuration unmarked) ∙ no_pair s.white s.black in
-                absurd cc)
-          ];
+      (told_by_planes spots are planes (Decided arena side win n) have i inside)).1 d) [
+        | inl old ↦ (let is : n ≡ k = omega arith in
+            subst (λ (z : ℕ). Decided arena side win z i) is old)
+        | inr at ↦ (
+            let s = spots.at i in
+            let is_so = (in_planes spots are (those_marked marks more)
+            (DecidedAt arena side win (n + 1)) new i inside).1 at in
+            let is_not = ap (λ (p : List ℕ). has_pair p s.white s.black)
+            (none_there marks more s.configuration unmarked) ∙ no_pair s.white s.black in
+            absurd cc)
+      ];
 }
 
 -- before the first ply

@@ -12,7 +12,7 @@ use Rattle.frz_plane_game.specs.Spots.{AreSpots, Spots}
 use Rattle.frz_plane_solver.specs.Marks.{IsDecidedTo}
 use Rattle.frz_plane_solver.specs.Walks.{IsSolvedTo}
 use Rattle.frz_plane_solver.specs.declared.marked.MarkedPlanes.{MarkedPlanes}
-use Rattle.frz_plane_solver.specs.Decided.{ArePut, Decided, DecidedAt}
+use Rattle.frz_plane_solver.specs.Decided.{ArePut, DecidedAt}
 use Rattle.frz_plane_solver.proofs.AllNumbers.{told_by_planes}
 use Rattle.frz_plane_solver.proofs.Telling.{told_broken, told_failure, told_open, told_still, told_win}
 

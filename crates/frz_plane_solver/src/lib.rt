@@ -2,10 +2,10 @@
 #![tactic(auto)]
 
 mod fill;
+mod marked;
 mod passes;
 mod plies;
 mod reach;
-mod marked;
 mod settle;
 
 pub use passes::solve;

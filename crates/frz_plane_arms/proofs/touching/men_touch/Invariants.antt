@@ -1,4 +1,4 @@
-use Rattle.std.proofs.Common.{◌≡◌, ◌<◌, ℕ, false, take}
+use Rattle.std.proofs.Common.{◌≡◌, false, take}
 use Rattle.std.specs.List.{All, slice_index_or}
 use Rattle.frz_plane_arms.proofs.touching.men_touch.Given as goal
 

@@ -1,4 +1,4 @@
-use Rattle.std.proofs.Common.{◌≡◌, ◌∙◌, ℕ, List, ap, subst, sym, true, arith}
+use Rattle.std.proofs.Common.{◌≡◌, ◌∙◌, ℕ, List, ap, subst, true, arith}
 use Rattle.frz_planes.specs.Planes.{has_pair}
 use Rattle.frz_plane_game.specs.Spots.{plane_at}
 use Rattle.frz_plane_solver.specs.Decided.{ArePut}
@@ -19,10 +19,10 @@ returns-then-not-index g c =
     ∙ c.if-not-index.true) in
     put_none (IsHere spots k (plane_at (marked_planes marked) k)) c.args.code c.args.codes.now
     (λ i h. (
-      let s = spots.at i in
-      let is_so = h.2 in
-      let is_not = ap (λ (p : List ℕ). has_pair p s.white s.black) none ∙ no_pair s.white s.black in
-      cc))
+    let s = spots.at i in
+    let is_so = h.2 in
+    let is_not = ap (λ (p : List ℕ). has_pair p s.white s.black) none ∙ no_pair s.white s.black in
+    cc))
 
 pub settle-requires-clause-only : goal.settle-requires-clause-only
 settle-requires-clause-only g c a b la lb there =
