@@ -22,10 +22,9 @@ use Rattle.frz_plane_arms.specs.Inside.{LeadsInside}
 use Rattle.frz_plane_exits.specs.Exits.{AreExits}
 use Rattle.frz_plane_exits.specs.declared.exit_plane.ExitPlane.{ExitPlane}
 use Rattle.frz_game.specs.Games.{graph_by}
-use Rattle.frz_plane_game.specs.Targets.{LeadsToMarked, NoMoveLeads, SomeMove, WinsOut, is_marked}
+use Rattle.frz_plane_game.specs.Targets.{LeadsToMarked, NoMoveLeads, WinsOut, is_marked}
 use Rattle.frz_plane_chess.specs.Counted.{HasNoWinWith}
 use Rattle.frz_plane_chess.specs.Spots.{spot_of, spots_of}
-use Rattle.frz_plane_chess.specs.Steps.{HasStep}
 use Rattle.frz_plane_chess.proofs.Legal.{next_inside, next_outside, position_there, some_move}
 use Rattle.frz_plane_chess.proofs.Placing.{placed}
 

@@ -1,4 +1,4 @@
-use Rattle.std.proofs.Common.{◌∙◌, [], false, sym, subst, ℕ}
+use Rattle.std.proofs.Common.{[], false, sym, subst, ℕ}
 use Rattle.frz_plane_arms.specs.Inner.{AreBelow}
 use Rattle.frz_plane_game.specs.Targets.{LeadsToMarked}
 use Rattle.frz_plane_chess.specs.Spots.{spots_of}
