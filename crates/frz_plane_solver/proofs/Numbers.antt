@@ -95,14 +95,3 @@ numbers_none spots are c r P none plane = record {
   );
   only = λ a b m n t. (let is_not = plane a b m n in absurd cc);
 }
-
-pub numbers_copied : (spots : Spots) → AreSpots spots → (c : ℕ) (p q : List ℕ) (P : ℕ → Type 0) →
-    HasNumbers spots c p P → IsPlaneOf q (has_pair p) → HasNumbers spots c q P
-numbers_copied spots are c p q P has plane = record {
-  there = λ i l e. (
-      let is = plane (spots.at i).white (spots.at i).black (are.white i l) (are.black i l) in (
-        λ t. (has.there i l e).0 (sym is ∙ t),
-        λ k. is ∙ (has.there i l e).1 k,
-      ));
-  only = λ a b m n t. has.only a b m n (sym (plane a b m n) ∙ t);
-}
