@@ -17,14 +17,26 @@ const SMALL: u32 = 65536;
 /// So many numbers a configuration, of the 4,096 pairs of a plane, make planes worth while.
 const MANY_PAIRS: u32 = 1024;
 
+/// With fewer, but so many, they take less time and more memory, of which they may have this much.
+const SOME_PAIRS: u32 = 128;
+
+/// A configuration takes some 5 kilobytes.
+const MOST_CONFIGURATIONS: u32 = 524_288;
+
+/// Have so many configurations enough numbers each, of `size` in all?
+fn are_filled(size: u32, configurations: u32) -> bool {
+    size / MANY_PAIRS >= configurations
+        || (configurations <= MOST_CONFIGURATIONS && size / SOME_PAIRS >= configurations)
+}
+
 /// Is the set small, or do its kings have many squares? Where they have few, planes are mostly
-/// empty, and numbers are quicker one by one.
+/// empty, and numbers take less memory one by one.
 fn planes_serve(alloc: Global, set: &Set, rules: &Rules) -> bool
     requires { IsSound rules.now }
 {
     let size = set.size();
     match Configurations::new(alloc, rules) {
-        Ok(configurations) => size <= SMALL || size / MANY_PAIRS >= configurations.count(),
+        Ok(configurations) => size <= SMALL || are_filled(size, configurations.count()),
         Err(_) => false,
     }
 }
