@@ -17,15 +17,18 @@ class NoTable(Exception):
     """The cause why bytes are no table."""
 
 
-def table_file(text, codes, magic=MAGIC):
-    """The bytes of the file with this text and these codes of the two sides."""
-    rules = text.encode("latin-1")
-    entries = [code for side in SIDES for code in codes[side]]
-    size = len(entries) // 2
+def file_of(magic, rules, size, entries):
+    """The bytes of a file with these fields, whatever they say of each other."""
     return (
         magic + struct.pack("<I", len(rules)) + rules
         + struct.pack("<I", size) + struct.pack(f"<{len(entries)}I", *entries)
     )
+
+
+def table_file(text, codes, magic=MAGIC):
+    """The bytes of the file with this text and these codes of the two sides."""
+    entries = [code for side in SIDES for code in codes[side]]
+    return file_of(magic, text.encode("latin-1"), len(entries) // 2, entries)
 
 
 def number_in(content, place):
