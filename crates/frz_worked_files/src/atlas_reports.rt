@@ -1,9 +1,9 @@
-//! Reports of a pawn's table over tables of what it leaves behind, all made by hand. The king on a1
-//! moves to b1 first, and the most frequent class stands first.
+//! A report of a pawn's table over tables of what it leaves behind, all made by hand, where a call of
+//! the store fails.
 ghost use Rattle.std.specs.Prelude.{◌≡◌, ◌<◌};
 
-use crate::stores::Row;
-use frz_answer::{End, Fault, Status};
+use crate::stores::check_unwritten;
+use frz_answer::End;
 use frz_commands_atlas::run_report;
 use frz_steps::Steps;
 use frz_store::{Fail as Failing, MemSink, MemStore};
@@ -32,10 +32,7 @@ group white 1 Q:h8
 group black 1 K:g7
 ";
 
-/// White wins, and its two codes that tell nothing together.
 const WON: &[u32] = &[0, 4, 0, 5];
-
-const UNTOLD: &[u32] = &[0, 4, 0, 4];
 
 /// The bare kings, after the pawn was captured: 2 numbers.
 const KINGS: &str = "freezer 1
@@ -46,21 +43,12 @@ group black 1 K:h7
 const DRAWN: &[u32] = &[1, 1, 1, 1];
 
 /// A store whose calls fail so, with the pawn's table and those behind it.
-fn filled(alloc: Global, fails: &[Failing]) -> Result<MemStore, Fail> {
+fn filled(alloc: Global, fails: Vec<Failing>) -> Result<MemStore, Fail> {
     let pawn = table_file(alloc, b"FREEZERB", PAWN.as_bytes(), 4, PAWN_CODES)?;
-    let plain = plain_file(alloc, PAWN.as_bytes(), PAWN_CODES)?;
     let won = plain_file(alloc, QUEEN.as_bytes(), WON)?;
-    let untold = plain_file(alloc, QUEEN.as_bytes(), UNTOLD)?;
     let kings = table_file(alloc, b"FREEZERB", KINGS.as_bytes(), 2, DRAWN)?;
-    let files = [
-        ("pawn", pawn.as_slice()),
-        ("plain", &plain),
-        ("won", &won),
-        ("untold", &untold),
-        ("kings", &kings),
-        ("empty", b""),
-    ];
-    store_with(alloc, fails.to_vec(alloc)?, &files)
+    let files = [("pawn", pawn.as_slice()), ("won", &won), ("kings", &kings)];
+    store_with(alloc, fails, &files)
 }
 
 /// How a report of these words ends.
@@ -91,104 +79,12 @@ fn report(
     reported::<Brand>(alloc, blank, line, store, out)
 }
 
-/// A report over a store whose calls fail so answers what the row says.
-fn check_report(rt: &impl Abort, alloc: Global, row: &Row, fails: &[Failing]) -> Result<(), Fail> {
-    let mut store = filled(alloc, fails)?;
+/// A report over a store whose nth call fails stops before anything is written.
+fn check_report(rt: &impl Abort, alloc: Global, nth: u64) -> Result<(), Fail> {
+    let mut store = filled(alloc, call_fails(alloc, nth)?)?;
     let mut out = empty_sink(alloc, 400)?;
-    row.check(rt, report(alloc, row.0, &mut store, &mut out)?, &out);
-    Ok(())
-}
-
-const ROWS: &[Row] = &[
-    // The queen and the bare kings are told by the tables; the other three men are not.
-    Row(
-        &["pawn", "won", "kings"],
-        End::Done(Status::Success),
-        b"squeeze 0 2 8/6kP/8/8/8/8/8/K7 w - - 0 1\n\
-            exits 12 KPk 8/6kP/8/8/8/8/8/1K6 b - - 0 1\n\
-            exits 1 KRk 7R/6k1/8/8/8/8/8/K7 b - - 0 1\n\
-            exits 1 KBk 7B/6k1/8/8/8/8/8/K7 b - - 0 1\n\
-            exits 1 KNk 7N/6k1/8/8/8/8/8/K7 b - - 0 1\n\
-            squeezes 1 unassigned 15\n",
-    ),
-    // The first table whose set holds the position counts, though it tells nothing.
-    Row(
-        &["pawn", "untold", "won"],
-        End::Done(Status::Success),
-        b"squeeze 0 2 8/6kP/8/8/8/8/8/K7 w - - 0 1\n\
-            exits 12 KPk 8/6kP/8/8/8/8/8/1K6 b - - 0 1\n\
-            exits 2 Kk 8/7k/8/8/8/8/8/K7 w - - 0 1\n\
-            exits 1 KQk 7Q/6k1/8/8/8/8/8/K7 b - - 0 1\n\
-            exits 1 KRk 7R/6k1/8/8/8/8/8/K7 b - - 0 1\n\
-            exits 1 KBk 7B/6k1/8/8/8/8/8/K7 b - - 0 1\n\
-            exits 1 KNk 7N/6k1/8/8/8/8/8/K7 b - - 0 1\n\
-            squeezes 1 unassigned 18\n",
-    ),
-    Row(
-        &["pawn", "won", "untold"],
-        End::Done(Status::Success),
-        b"squeeze 0 2 8/6kP/8/8/8/8/8/K7 w - - 0 1\n\
-            exits 12 KPk 8/6kP/8/8/8/8/8/1K6 b - - 0 1\n\
-            exits 2 Kk 8/7k/8/8/8/8/8/K7 w - - 0 1\n\
-            exits 1 KRk 7R/6k1/8/8/8/8/8/K7 b - - 0 1\n\
-            exits 1 KBk 7B/6k1/8/8/8/8/8/K7 b - - 0 1\n\
-            exits 1 KNk 7N/6k1/8/8/8/8/8/K7 b - - 0 1\n\
-            squeezes 1 unassigned 17\n",
-    ),
-    // A plain table goes by its exit lines alone, whatever stands behind it.
-    Row(
-        &["plain"],
-        End::Done(Status::Success),
-        b"squeeze 0 2 8/6kP/8/8/8/8/8/K7 w - - 0 1\n\
-            exits 12 KPk 8/6kP/8/8/8/8/8/1K6 b - - 0 1\n\
-            exits 2 Kk 8/7k/8/8/8/8/8/K7 w - - 0 1\n\
-            exits 1 KQk 7Q/6k1/8/8/8/8/8/K7 b - - 0 1\n\
-            exits 1 KRk 7R/6k1/8/8/8/8/8/K7 b - - 0 1\n\
-            exits 1 KBk 7B/6k1/8/8/8/8/8/K7 b - - 0 1\n\
-            exits 1 KNk 7N/6k1/8/8/8/8/8/K7 b - - 0 1\n\
-            squeezes 1 unassigned 18\n",
-    ),
-    Row(
-        &["plain", "won"],
-        End::Done(Status::Success),
-        b"squeeze 0 2 8/6kP/8/8/8/8/8/K7 w - - 0 1\n\
-            exits 12 KPk 8/6kP/8/8/8/8/8/1K6 b - - 0 1\n\
-            exits 2 Kk 8/7k/8/8/8/8/8/K7 w - - 0 1\n\
-            exits 1 KQk 7Q/6k1/8/8/8/8/8/K7 b - - 0 1\n\
-            exits 1 KRk 7R/6k1/8/8/8/8/8/K7 b - - 0 1\n\
-            exits 1 KBk 7B/6k1/8/8/8/8/8/K7 b - - 0 1\n\
-            exits 1 KNk 7N/6k1/8/8/8/8/8/K7 b - - 0 1\n\
-            squeezes 1 unassigned 18\n",
-    ),
-    Row(&[], End::Done(Status::Words), b"words: count\n"),
-    Row(
-        &["pawn", "won", "pawn"],
-        End::Done(Status::Words),
-        b"words: same name\n",
-    ),
-    // The table is opened before those behind it, and these from the left.
-    Row(
-        &["empty", "none"],
-        End::Done(Status::Table),
-        b"table: truncated 0 due 16\n",
-    ),
-    Row(
-        &["pawn", "kings", "empty", "none"],
-        End::Done(Status::Table),
-        b"back 2: truncated 0 due 16\n",
-    ),
-    Row(
-        &["pawn", "none", "empty"],
-        End::Done(Status::Missing),
-        b"missing back 1\n",
-    ),
-];
-
-#[test]
-fn reports_over_tables_behind(rt: HostRuntime) -> Result<(), Fail> {
-    for row in ROWS {
-        check_report(&rt, rt.alloc(), row, &[])?;
-    }
+    let end = report(alloc, &["pawn", "won", "kings"], &mut store, &mut out)?;
+    check_unwritten(rt, &end, &out);
     Ok(())
 }
 
@@ -198,9 +94,8 @@ const CALLS: u64 = 21;
 
 #[test]
 fn each_call_may_fail_before_anything_is_written(rt: HostRuntime) -> Result<(), Fail> {
-    let row = Row(&["pawn", "won", "kings"], End::Stopped(Fault::Store), b"");
     for nth in 1..CALLS + 1 {
-        check_report(&rt, rt.alloc(), &row, &call_fails(rt.alloc(), nth)?)?;
+        check_report(&rt, rt.alloc(), nth)?;
     }
     Ok(())
 }

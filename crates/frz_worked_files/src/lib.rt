@@ -7,10 +7,6 @@ mod atlas_lines;
 #[cfg(test)]
 mod atlas_reports;
 #[cfg(test)]
-mod chains;
-#[cfg(test)]
-mod checks;
-#[cfg(test)]
 mod ends;
 #[cfg(test)]
 mod expect;
@@ -19,11 +15,9 @@ mod handmade;
 #[cfg(test)]
 mod journeys;
 #[cfg(test)]
-mod lines;
-#[cfg(test)]
 mod outside;
 #[cfg(test)]
-mod reports;
+mod pairs;
 #[cfg(test)]
 mod sessions;
 #[cfg(test)]

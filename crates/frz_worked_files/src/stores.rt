@@ -1,7 +1,7 @@
-//! What tests share: a store in memory that holds the table file of a row, made by hand, looks at
-//! what it holds, and rows that say what a line of words answers.
+//! What tests share: a store in memory that holds the table file of a row, made by hand, and looks at
+//! what it holds and at how a call stopped.
 use crate::expect::expect_equal;
-use frz_answer::End;
+use frz_answer::{End, Fault};
 use frz_store::{Fail as Failing, MemSink, MemStore};
 use std::alloc::Global;
 use std::process::Abort;
@@ -29,19 +29,8 @@ pub(crate) fn check_file(rt: &impl Abort, store: &MemStore, name: &str, want: &[
     expect_equal(rt, &store.file(name), &Some(want), name);
 }
 
-/// The words of a line, its end and its text.
-#[derive(Drop)]
-pub(crate) struct Row(
-    pub(crate) &'static [&'static str],
-    pub(crate) End,
-    pub(crate) &'static [u8],
-);
-
-impl Row {
-    /// The line ended so, and its text is what the sink took.
-    pub(crate) fn check(&self, rt: &impl Abort, end: End, out: &MemSink) {
-        let Row(_, wanted, text) = self;
-        check_bytes(rt, out.taken(), text, "text");
-        expect_equal(rt, &end, wanted, "end");
-    }
+/// The call stopped at a fault of the store before it wrote anything.
+pub(crate) fn check_unwritten(rt: &impl Abort, end: &End, out: &MemSink) {
+    check_bytes(rt, out.taken(), b"", "text");
+    expect_equal(rt, end, &End::Stopped(Fault::Store), "end");
 }
