@@ -68,7 +68,7 @@ def clean(folder: str, cells) -> None:
         path = os.path.join(folder, name)
         if os.path.isdir(path) and name.startswith(("white-", "black-", "smaller")):
             shutil.rmtree(path)
-        elif re.match(r"c\d\d", name) and name.endswith((".t", ".txt", ".part")) and name not in kept:
+        elif re.match(r"c\d\d", name) and name.endswith((".t", ".txt", ".part", ".new")) and name not in kept:
             os.remove(path)
 
 
@@ -79,10 +79,10 @@ def opened(fen: str, side: Optional[str], claim: Optional[str], question: Questi
     for cell in row.cells:
         write_text(os.path.join(question.folder, f"{cell.name}.txt"), row.plain_text(cell))
     save(row, fen, question.folder)
+    if not is_built(row, row.cells[-1]):
+        return Found(fen, side, claim, Status.OPEN, (), (), fen)
     is_here = question.folder == folder
     cells = tuple(told(row, index) for index in range(len(row.cells))) if is_here else ()
-    if not is_built(row, row.cells[-1]):
-        return Found(fen, side, claim, Status.OPEN, cells, (), fen)
     known = replace(row, cells=[cell for cell in row.cells if is_built(row, cell)])
     moves, end = open_way(known, read_fen(fen))
     return Found(fen, side, claim, Status.OPEN, cells, moves, end)

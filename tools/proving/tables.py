@@ -99,12 +99,15 @@ class Workshop:
         return replace(self, folder=folder)
 
     def build(self, name: str, text: str, backs: list[Table]) -> Table:
-        """The table of the text over the tables behind it. The text lies beside it."""
+        """The table of the text over the tables behind it. The text lies beside it. Both replace what was there when
+        they are whole: an earlier table is still read, and the call may be cut off."""
         path = os.path.join(self.folder, f"{name}.t")
         rules = os.path.join(self.folder, f"{name}.txt")
-        write_text(rules, text)
+        write_text(f"{rules}.new", text)
         program = self.programs.atlas if backs else self.programs.freezer
-        self.run(program, "build", rules, path, *[back.path for back in backs])
+        self.run(program, "build", f"{rules}.new", f"{path}.new", *[back.path for back in backs])
+        os.replace(f"{rules}.new", rules)
+        os.replace(f"{path}.new", path)
         table = Table(path)
         self.spent.built += table.size
         self.spent.checked += sum(back.size for back in backs)
