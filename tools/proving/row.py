@@ -6,9 +6,10 @@ from dataclasses import dataclass, field
 from typing import NamedTuple, Optional
 
 from lib.chess import other
-from proving.board import FORWARD, PAWN_HITS, Position
+from proving.behind import all_behind
+from proving.board import Position
 from proving.cells import Cell
-from proving.groups import COLOUR, Slot
+from proving.groups import COLOUR
 from proving.tables import ASKED_LAST, HOLD, Table, Workshop, is_safe, is_win
 from proving.words import SIDES, head
 
@@ -45,7 +46,7 @@ class Row:
     versions: int = 0
     named: int = 0
     known_cells: list[Cell] = field(default_factory=list, repr=False)  # for which known_behind tells what lies behind
-    known_behind: dict[int, list[int]] = field(default_factory=dict, repr=False)
+    known_behind: list[list[int]] = field(default_factory=list, repr=False)
 
     def new_name(self) -> str:
         return f"c{self.named + 1:02d}"
@@ -58,19 +59,10 @@ class Row:
         self.named += 1
 
     def behind(self, index: int) -> list[int]:
-        """The cells to which this one may lead, and those to which these may, in order; kept until the cells change."""
+        """The cells behind this one, in order; kept until the cells change."""
         if self.known_cells != self.cells:
-            self.known_cells, self.known_behind = list(self.cells), {}
-        if index not in self.known_behind:
-            self.known_behind[index] = self.find_behind(index)
+            self.known_cells, self.known_behind = list(self.cells), all_behind(self.cells)
         return self.known_behind[index]
-
-    def find_behind(self, index: int) -> list[int]:
-        reached: set[int] = set()
-        for j in range(index - 1, -1, -1):
-            if any(may_lead(self.cells[i], self.cells[j]) for i in (index, *reached)):
-                reached.add(j)
-        return sorted(reached)
 
     def cells_behind(self, index: int) -> dict[str, Cell]:
         """The same cells by their names."""
@@ -138,38 +130,6 @@ class Row:
         if is_win(code):
             return code if ASKED_LAST else WON
         return HOLD if is_safe(code) else LOST
-
-
-def may_lead(cell: Cell, target: Cell) -> bool:
-    """May a move out of the cell come to a position of the other? False only where it surely may not, or is not to."""
-    if cell.leads is not None and target.name not in cell.leads:
-        return False
-    for side in "wb":
-        for kind in "PNBRQ":
-            here, there = cell.ranges[side + kind], target.ranges[side + kind]
-            if there[0] > here[1] + 1 or there[1] < here[0] - 1:
-                return False
-    missing = [slot for slot in target.slots.values() if needs_pawn(slot) and not slot.squares("P") & pawn_squares(cell, slot.side)]
-    if len(missing) > 1:  # one man moves at a time
-        return False
-    return all(slot.squares("P") & arrivals(cell, slot.side) for slot in missing)
-
-
-def needs_pawn(slot: Slot) -> bool:
-    return slot.is_sure and all(kind == "P" for kind, _ in slot.states)
-
-
-def pawn_squares(cell: Cell, side: str) -> set[int]:
-    return {s for slot in cell.slots.values() if slot.side == side for s in slot.squares("P")}
-
-
-def arrivals(cell: Cell, side: str) -> set[int]:
-    """Where a pawn of the side may come by one move: ahead, or where a man of the opponent's may be taken."""
-    here, step = pawn_squares(cell, side), FORWARD[side]
-    taken = {s for slot in cell.slots.values() if slot.side != side and not slot.is_king for _, s in slot.states}
-    passed = {s + step for s in pawn_squares(cell, other(side))}
-    hits = {to for s in here for to in PAWN_HITS[side][s]}
-    return {s + step * n for s in here for n in (1, 2)} | hits & (taken | passed)
 
 
 def bare_words(cell: Cell, side: str) -> str:
