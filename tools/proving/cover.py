@@ -5,10 +5,10 @@ from __future__ import annotations
 from typing import Optional
 
 from proving.cells import Cell
-from proving.hunt import family
-from proving.parts import Part, cell_of, joined, parts_of
+from proving.parts import cell_of, joined, parts_of
 from proving.sketch import Reached
 from proving.slices import Slice
+from proving.worth import family
 
 TABLE = 60_000  # numbers that a table more is worth
 

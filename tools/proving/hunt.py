@@ -3,38 +3,47 @@
 from __future__ import annotations
 
 from collections import defaultdict, deque
+from collections.abc import Iterator
+from math import log2
 from typing import Optional
 
-from proving.board import FORWARD, PAWN_HITS, Position
-from proving.planes import BESIDE, BLACK, SIDES, WHITE, union
+from proving.board import Position
+from proving.planes import SIDES, WHITE
 from proving.sketch import Reached, Sketch
 from proving.slices import Book, Slice, bit_of, key_of
 from proving.tables import OutOfTime, used
-from proving.waves import GUESSED, SURE
+from proving.waves import SURE
+from proving.worth import EVEN, MOST, balance, family, has_pawns_alone, is_bare, is_contested, worth
 
-WORTH = {"Q": 9.0, "R": 5.0, "B": 3.0, "N": 3.0, "P": 1.0}
-EVEN, POINT = 400, 25  # the price of an equal slice, and of a pawn
-LEAST, MOST = 100, 1500
-MOST_SLICES = 60_000
+MOST_DOUBTFUL = 2
+AGAIN = 40  # plies that a closed slice is dearer by each time that twice as many of its family are open
 MOST_OPENED = 60  # families at a time
+FRESH, PART = 5, 16  # slices that are opened before a guess: so many, or this part of all
 NEARLY = 50  # what is so much less dear than the dearest waits
 AT_ONCE, FEW = 200, 4  # slices of a family; the latter with several queens and rooks, or where the opponent has one
 
 
 class Hunt:
-    """Looks for a win of the side from the position."""
+    """Looks for a win of the side from the position, perhaps one for which its pieces only take."""
 
-    def __init__(self, position: Position, own: str):
-        self.own = SIDES.index(own)
+    most_slices = 60_000
+
+    def __init__(self, position: Position, own: str, is_calm: bool = False):
+        self.own, self.is_calm = SIDES.index(own), is_calm
         self.queens, self.their_queens = (position.board.count(man) for man in ("Qq"[self.own], "qQ"[self.own]))
-        self.book = Book(self.own, self.queens)
+        self.book = self.new_book()
         self.sketch = Sketch(self.book, self.own)
         self.side, self.bit = SIDES.index(position.turn), 1 << bit_of(position)
         self.root = self.book.get(key_of(position))
-        self.is_wide = False
+        self.par = balance(self.root, self.own)
+        self.width = 0
         self.opened = 0
         self.fresh: list[Slice] = []  # opened, and not yet settled
+        self.known: dict[tuple, int] = defaultdict(int)  # how many slices of each family are open
         self.open_family(self.root)
+
+    def new_book(self) -> Book:
+        return Book(self.own, self.queens, self.is_calm)
 
     def open_family(self, piece: Slice) -> None:
         """Opens a slice, and all to which the men who are no pawns can move, with nobody taken."""
@@ -48,7 +57,8 @@ class Hunt:
             self.opened += 1
             self.fresh.append(piece)
             name = family(piece)
-            for after, _ in piece.steps[0] + piece.steps[1] + piece.kings[0] + piece.kings[1]:
+            self.known[name] += 1
+            for after in next_to(piece):
                 if not after.is_open and family(after) == name:
                     todo.append(after)
 
@@ -58,11 +68,15 @@ class Hunt:
         self.sketch.settle(opened)
         if self.root.win[SURE + self.side] & self.bit:
             return True
-        self.sketch.guess(self.worth)
-        if not self.root.win[GUESSED + self.side] & self.bit:
+        if not self.sketch.guess(self.worth, self.root, self.side, self.bit):
             return None if self.widen() else False
         reached = self.sketch.reached(self.root, self.side, self.bit, self.sketch.guessed)
-        closed = [piece for piece in reached.planes if not piece.is_open]
+        self.open_all([piece for piece in reached.planes if not piece.is_open])
+        self.go_deeper()
+        return None
+
+    def open_all(self, closed: list[Slice]) -> None:
+        """Opens the dearest slices, and those of pawns alone."""
         dearest = max(self.worth(piece)[0] for piece in closed)
         is_dear = lambda piece: self.worth(piece)[0] >= dearest - NEARLY
         names = set()
@@ -70,32 +84,62 @@ class Hunt:
             if not piece.is_open and len(names) < MOST_OPENED and (is_dear(piece) or has_pawns_alone(piece)):
                 names.add(family(piece))
                 self.open_family(piece)
-        return None
+
+    def go_deeper(self) -> None:
+        """Opens the best slices behind those that are fresh, until they are a good part of all: a guess costs as much
+        whether few are fresh or many."""
+        enough, seen = self.opened + max(FRESH, self.opened // PART), 0
+        while self.opened < enough and seen < len(self.fresh):
+            behind = {after for piece in self.fresh[seen:] for after in next_to(piece) if self.is_natural(piece, after)}
+            seen = len(self.fresh)
+            for piece in sorted(behind, key=lambda piece: (self.price(piece), piece.key)):
+                if self.opened < enough:
+                    self.open_family(piece)
+
+    def is_natural(self, piece: Slice, after: Slice) -> bool:
+        """May the closed slice be opened before anybody has asked for it: one of the same men, or of good worth?"""
+        return not after.is_open and (family(after) == family(piece) or self.is_plain(after) and worth(after, self.own, self.par)[0] <= EVEN)
+
+    def is_plain(self, piece: Slice) -> bool:
+        """Has nobody a new man but the side queens?"""
+        board, before = piece.key[0], self.root.key[0]
+        theirs, mine = ("qrbn", "RBN") if self.own == WHITE else ("QRBN", "rbn")
+        return all(board.count(man) <= before.count(man) for man in theirs + mine)
 
     def widen(self) -> bool:
-        """Lets the opponent have new queens beside those of the side too; tells whether that was not allowed before."""
-        was_wide, self.is_wide = self.is_wide, True
-        self.sketch.forget_guesses()
-        return not was_wide
+        """Lets more doubtful men come up; tells whether that was not allowed before."""
+        self.width += 1
+        return self.width <= MOST_DOUBTFUL
 
     def worth(self, piece: Slice):
-        """What the closed slice is worth; of what is doubtful nothing at first."""
-        if not self.is_wide and self.is_doubtful(piece):
+        """What the closed slice is worth; of what is doubtful nothing at first, and of a bare king never."""
+        if is_bare(piece, self.own) or self.doubt(piece) > self.width:
             return None
-        return worth(piece, self.own)
+        return self.price(piece), worth(piece, self.own, self.par)[1]
 
-    def is_doubtful(self, piece: Slice) -> bool:
-        """Has the side a new man who is no queen, or the opponent a new queen beside one of the side's?"""
-        board = piece.key[0]
-        if any(board.count(man) > self.root.key[0].count(man) for man in ("RBN", "rbn")[self.own]):
-            return True
-        return "Qq"[self.own] in board and board.count("qQ"[self.own]) > self.their_queens
+    def price(self, piece: Slice) -> int:
+        """Within how many plies the side is taken to win in a closed slice: later the more of its family was seen, so
+        that what cannot be taken back is tried before men only go to and fro."""
+        return min(worth(piece, self.own, self.par)[0] + int(AGAIN * log2(1 + self.known[family(piece)])), MOST)
+
+    def doubt(self, piece: Slice) -> int:
+        """Of a new rook of the side's, or a new queen of the opponent's beside one of the side's; of its new bishops and
+        knights more."""
+        board, before = piece.key[0], self.root.key[0]
+        rook, *minor = "RBN" if self.own == WHITE else "rbn"
+        if any(board.count(man) > before.count(man) for man in minor):
+            return MOST_DOUBTFUL
+        is_new_queen = "Qq"[self.own] in board and board.count("qQ"[self.own]) > self.their_queens
+        return 1 if is_new_queen or board.count(rook) > before.count(rook) else 0
+
+    def is_full(self) -> bool:
+        return len(self.book.slices) >= self.most_slices
 
     def run(self, until: float) -> Optional[bool]:
         """Hunts until the processor seconds are used up, or slices take too much room."""
         self.sketch.end_at(until)
         try:
-            while used() < until and len(self.book.slices) < MOST_SLICES:
+            while used() < until and not self.is_full():
                 came = self.step()
                 if came is not None:
                     return came
@@ -107,15 +151,6 @@ class Hunt:
 def strategy(hunt: Hunt, liked=frozenset()) -> Reached:
     """All positions of the soonest win; slices that are liked come first."""
     return hunt.sketch.reached(hunt.root, hunt.side, hunt.bit, hunt.sketch.sure, liked)
-
-
-def worked_out_anew(hunt: Hunt) -> None:
-    """Finds all wins again, over all that is open: they come sooner than piece by piece."""
-    pieces = list(hunt.book.slices.values())
-    for piece in pieces:
-        piece.reset()
-    hunt.sketch = Sketch(hunt.book, hunt.own)
-    hunt.sketch.settle([piece for piece in pieces if piece.is_open])
 
 
 def favourites(reached: Reached) -> set[Slice]:
@@ -134,58 +169,8 @@ def favourites(reached: Reached) -> set[Slice]:
     return found
 
 
-def family(piece: Slice) -> tuple:
-    """The pawns and others who stand still, on their squares, and what other men there are."""
-    if piece.kept is None:
-        fast = tuple((s, m) for s, m in piece.men if m in "Pp" or m not in "Qq" and piece.still == (WHITE if m.isupper() else BLACK))
-        piece.kept = [(fast, "".join(sorted(m for s, m in piece.men if (s, m) not in fast))), None]
-    return piece.kept[0]
-
-
-def is_contested(piece: Slice, own: int) -> bool:
-    """Are there several queens and rooks, or one of the opponent's?"""
-    heavy = [man for _, man in piece.men if man in "QRqr"]
-    return len(heavy) > 1 or any(man in ("qr", "QR")[own] for man in heavy)
-
-
-def has_pawns_alone(piece: Slice) -> bool:
-    return all(man in "Pp" for _, man in piece.men)
-
-
-def worth(piece: Slice, own: int):
-    """Within how many plies the side is taken to win in a closed slice, and where; the better its men the sooner."""
-    family(piece)
-    if piece.kept[1] is None:
-        price = EVEN - POINT * int(strength(piece, own) - strength(piece, 1 - own))
-        planes = list(piece.valid)
-        planes[1 - own] &= ~hanging(piece, own)
-        piece.kept[1] = min(max(price, LEAST), MOST), planes
-    return piece.kept[1]
-
-
-def strength(piece: Slice, side: int) -> float:
-    return sum(value(piece, s, m) for s, m in piece.men if m.isupper() == (side == WHITE))
-
-
-def value(piece: Slice, square: int, man: str) -> float:
-    if man not in "Pp":
-        return WORTH[man.upper()]
-    ahead = square // 8 - 1 if man == "P" else 6 - square // 8
-    return 1 + ahead * (0.5 if is_passed(piece, square, man) else 0.05)
-
-
-def is_passed(piece: Slice, square: int, man: str) -> bool:
-    """Can no pawn of the opponent's stop or take the pawn on his way?"""
-    side = "w" if man == "P" else "b"
-    enemy, ahead, board = "p" if man == "P" else "P", square + FORWARD[side], piece.key[0]
-    while 0 <= ahead < 64:
-        if board[ahead] == enemy or any(board[s] == enemy for s in PAWN_HITS[side][ahead]):
-            return False
-        ahead += FORWARD[side]
-    return True
-
-
-def hanging(piece: Slice, own: int) -> int:
-    """Where the opponent's king stands beside a queen or rook of the side, and its own king does not."""
-    heavy = [s for s, m in piece.men if m.upper() in "QR" and m.isupper() == (own == WHITE)]
-    return union(BESIDE[1 - own][s] & ~BESIDE[own][s] for s in heavy)
+def next_to(piece: Slice) -> Iterator[Slice]:
+    """The slices to which moves lead."""
+    for ways in (*piece.steps, *piece.kings):
+        for after, _ in ways:
+            yield after

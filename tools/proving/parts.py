@@ -9,12 +9,12 @@ from proving.board import EMPTY
 from proving.cells import Cell
 from proving.events import NEW_MEN
 from proving.groups import Slot
-from proving.hunt import family
 from proving.planes import BLACK, SIDES, WHITE, squares_of
 from proving.sketch import Reached
 from proving.slices import Slice
 from proving.words import MEN
 from proving.words import SIDES as NAMES
+from proving.worth import family
 
 
 @dataclass

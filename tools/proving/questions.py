@@ -3,7 +3,8 @@
 from __future__ import annotations
 
 import os
-from dataclasses import dataclass
+from dataclasses import dataclass, field
+from functools import partial
 from typing import Optional
 
 from lib.chess import other
@@ -13,12 +14,14 @@ from proving.mend import first_cell
 from proving.proof import Budget, Programs, Status
 from proving.row import Row, Spot
 from proving.searching import Search, both_hold, verdict
-from proving.seeds import Seeds
+from proving.seeds import Seeds, hunts
 from proving.state import load, save
-from proving.tables import OutOfTime, Workshop
+from proving.tables import Workshop
+from proving.turns import Turn, Turns
 from proving.wins import WinSearch
 
 SEARCHES = {"hold": HoldSearch, "win": WinSearch}
+MENDING = {"hold": 1.0, "win": 0.5}  # the part of the time for the search that mends events; those of hunts stand with them
 FIRST_NUMBERS = {"hold": 1_000_000, "win": 600_000}
 LETTER = {"white": "w", "black": "b"}
 SIDE = {letter: side for side, letter in LETTER.items()}
@@ -33,29 +36,43 @@ class Question:
     claim: str
     folder: str
     search: Search
-    seeds: Optional[Seeds] = None  # of a win that is searched from the beginning
+    turns: Turns = field(default_factory=Turns)
+    end: float = 0.0  # processor seconds at which the work that is going on ends
     status: Status = Status.OPEN
-    is_over: bool = False  # nothing more is found
     is_draw: bool = False  # its tables show that both sides hold
+
+    @property
+    def is_over(self) -> bool:
+        """Is nothing more to be found?"""
+        return not self.turns.left or self.status is not Status.OPEN
 
     def work(self, until: float) -> Status:
         """Searches until the processor seconds are used up."""
-        position, row = read_fen(self.fen), self.search.row
-        row.shop.until = until
-        self.search.depth = 0
-        self.search.paths.setdefault(position, ())
-        try:
-            if self.seeds is not None and self.seeds.try_out() is Status.PROVED:
-                self.status, self.is_over = Status.PROVED, True
-                return self.status
-            self.search.settle(row.cells[-1].name, position)
-            self.is_over = True
-        except OutOfTime:
-            return self.status
-        last = len(row.cells) - 1
-        spot = Spot(last, row.cells[last].number(position))
-        self.status, self.is_draw = verdict(row, spot), both_hold(row, spot)
+        self.end = until
+        self.turns.work(until, lambda: self.is_over)
         return self.status
+
+    def settle(self, until: float) -> bool:
+        """Goes on with the search that mends events, until there is nothing more to mend."""
+        position, row = read_fen(self.fen), self.search.row
+        row.shop.until, self.search.depth = until, 0
+        self.search.paths.setdefault(position, ())
+        self.search.settle(row.cells[-1].name, position)
+        self.look()
+        return True
+
+    def try_out(self, seeds: Seeds, until: float) -> bool:
+        """Goes on with a hunt, until its cells show the claim or there is nothing more to hunt."""
+        is_over = seeds.try_out(until, self.end)
+        if seeds.are_good:
+            self.look()
+        return is_over
+
+    def look(self) -> None:
+        """What the last table shows of the position."""
+        row, last = self.search.row, len(self.search.row.cells) - 1
+        spot = Spot(last, row.cells[last].number(read_fen(self.fen)))
+        self.status, self.is_draw = verdict(row, spot), both_hold(row, spot)
 
 
 def ask(fen: str, own: str, claim: str, programs: Programs, folder: str, budget: Budget, tell, resume: bool) -> Question:
@@ -68,8 +85,14 @@ def ask(fen: str, own: str, claim: str, programs: Programs, folder: str, budget:
         row.insert(0, first_cell(read_fen(fen), own, min(FIRST_NUMBERS[claim], budget.numbers), row.new_name()))
     search = SEARCHES[claim](row, budget.numbers, budget.tables, tell)
     search.after_round = lambda: save(row, fen, folder)
-    seeds = Seeds(read_fen(fen), row, budget.numbers, budget.tables, tell) if claim == "win" and kept is None else None
-    return Question(fen, own, claim, folder, search, seeds)
+    question = Question(fen, own, claim, folder, search)
+    question.turns.left = [Turn(question.settle, MENDING[claim])]
+    if kept is None:
+        seeds = [(Seeds(hunt, read_fen(fen), row, budget, tell), weight) for hunt, weight in hunts(read_fen(fen), own, claim)]
+        question.turns.left += [Turn(partial(question.try_out, each), weight) for each, weight in seeds]
+    if claim == "win":  # a hold is often shown by the first table
+        question.turns.left.sort(key=lambda turn: turn.work == question.settle)
+    return question
 
 
 def proves(question: Question) -> Optional[tuple[str, str]]:

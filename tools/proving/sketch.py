@@ -4,14 +4,12 @@ Nothing is proved by a sketch. It tells the search which moves win, and so which
 
 from __future__ import annotations
 
-from collections import defaultdict
 from collections.abc import Iterator
 from dataclasses import dataclass
 
 from proving.planes import shifted, spread, union
 from proving.slices import Book, Slice
-from proving.tables import OutOfTime, used
-from proving.waves import GUESSED, SURE, Wave
+from proving.waves import GUESSED, SURE, Clock, Flood, Wave
 
 EIGHT = [(file, rank) for file in (-1, 0, 1) for rank in (-1, 0, 1) if file or rank]
 
@@ -31,41 +29,39 @@ class Sketch:
 
     def __init__(self, book: Book, attacker: int):
         self.book, self.attacker, self.defender = book, attacker, 1 - attacker
-        self.sure, self.guessed = Wave(attacker, SURE), Wave(attacker, GUESSED)
-        self.given: dict[Slice, int] = {}  # the closed slices that count as won, and within how many plies
-        self.told, self.seen = 0, 0  # so many sure wins, and so many slices of the book, were looked at for guesses
-        self.forgotten: set[Slice] = set()  # slices of which guessed wins were forgotten
+        self.clock = Clock()
+        self.sure = Flood(attacker, SURE, self.clock)
+        self.guessed = Wave(attacker, GUESSED, self.clock)
 
     def end_at(self, until: float) -> None:
         """Sets the processor seconds after which OutOfTime is raised; the work goes on at the next call."""
-        self.sure.until = self.guessed.until = until
+        self.clock.until = until
 
     def settle(self, opened: list[Slice]) -> None:
-        """Finds the sure wins that come with newly opened slices; what rests on guesses of these is forgotten."""
-        prices = [self.given.pop(piece) for piece in opened if piece in self.given]
-        if prices:
-            self.forgotten |= self.guessed.go_back(min(prices))
+        """Finds the sure wins that come with newly opened slices."""
         for piece in opened:
             self.sure.opened(piece)
-            self.guessed.opened(piece)
         self.sure.go_on()
 
-    def guess(self, worth) -> None:
-        """Goes on with what closed slices are worth: the plies, and the planes by side that count as won."""
-        wave, now = self.guessed, self.guessed.clock
-        for piece in self.forgotten.union(entry[1] for entry in self.sure.log[self.told:]):
-            wave.due[now].append((piece, piece.win[SURE:SURE + 2]))
-        for piece in self.forgotten.intersection(self.given).union(self.book.made[self.seen:]):
-            if not piece.is_open and (given := worth(piece)):
-                self.given[piece] = given[0]
-                wave.due[max(now, given[0])].append((piece, given[1]))
-        self.told, self.seen, self.forgotten = len(self.sure.log), len(self.book.made), set()
-        wave.go_on()
+    def settle_anew(self, root: Slice, side: int, bit: int) -> None:
+        """Finds the sure wins again, over all that is open and stamp by stamp, until the position is one."""
+        self.sure = Wave(self.attacker, SURE, self.clock)
+        for piece in self.book.made:
+            piece.reset()
+        for piece in self.book.made:
+            if piece.is_open:
+                self.sure.opened(piece)
+        self.sure.go_on(lambda: root.win[SURE + side] & bit)
 
-    def forget_guesses(self) -> None:
-        """All slices are to be looked at again."""
-        self.forgotten |= self.guessed.go_back(0)
-        self.given, self.seen = {}, 0
+    def guess(self, worth, root: Slice, side: int, bit: int) -> bool:
+        """Is the position won, with what closed slices are worth: the plies, and the planes by side that count as won?"""
+        wave = self.guessed = Wave(self.attacker, GUESSED, self.clock)
+        for piece in self.book.made:
+            piece.guess_anew()
+            if not piece.is_open and (given := worth(piece)):
+                wave.due[given[0]].append((piece, given[1]))
+        wave.go_on(lambda: root.win[GUESSED + side] & bit)
+        return bool(root.win[GUESSED + side] & bit)
 
     def reached(self, root: Slice, side: int, plane: int, wave: Wave, liked=frozenset()) -> Reached:
         """All positions to which a strategy of the attacker leads from these; slices that are liked come first. Among
@@ -73,8 +69,7 @@ class Sketch:
         found = Reached({root: [0, 0]}, {}, set())
         todo = {(root, side): plane}
         while todo:
-            if used() > wave.until:
-                raise OutOfTime
+            self.clock.tick()
             piece, side = next(iter(todo))
             plane = todo.pop((piece, side)) & ~found.planes[piece][side]
             found.planes[piece][side] |= plane
@@ -93,12 +88,7 @@ class Sketch:
 
     def replies(self, piece: Slice, plane: int):
         """All moves of the defender from these positions."""
-        d, a = self.defender, self.attacker
-        kings = spread(d, plane)
-        for after, mask in piece.steps[d]:
-            yield after, plane & mask & after.valid[a]
-        for after, mask in piece.kings[d]:
-            yield after, kings & mask & after.valid[a]
+        return replies_of(self.defender, piece, plane)
 
     def best(self, piece: Slice, plane: int, wave: Wave, liked) -> Iterator[tuple[Slice, int]]:
         """One move of the attacker from each of these positions, to a win with a lower stamp: into a slice that is
@@ -127,6 +117,15 @@ class Sketch:
                 if to:
                     left &= ~to
                     yield after, to, to
+
+
+def replies_of(side: int, piece: Slice, plane: int) -> Iterator[tuple[Slice, int]]:
+    """All moves of the side from these positions."""
+    kings = spread(side, plane)
+    for after, mask in piece.steps[side]:
+        yield after, plane & mask & after.valid[1 - side]
+    for after, mask in piece.kings[side]:
+        yield after, kings & mask & after.valid[1 - side]
 
 
 def below(piece: Slice, wave: Wave, stamp: int, is_next: bool) -> int:

@@ -43,6 +43,10 @@ class Slice:
     def reset(self) -> None:
         self.win, self.free, self.layers = [0] * 4, 2 * list(self.valid), [{} for _ in range(4)]
 
+    def guess_anew(self) -> None:
+        """Forgets what was guessed: of the guessed wins those are left that are sure."""
+        self.win[2:], self.free[2:], self.layers[2:] = self.win[:2], self.free[:2], [{}, {}]
+
     def has(self, position: Position) -> bool:
         return bool(self.valid[SIDES.index(position.turn)] >> bit_of(position) & 1)
 
@@ -70,10 +74,10 @@ def bits_of(plane: int) -> Iterator[int]:
 
 class Book:
     """The slices that are known, by their keys. Where a side has more queens than `queens` and the other none, its other
-    men need not move."""
+    men need not move; where it is calm, its rooks, bishops and knights only take."""
 
-    def __init__(self, own: Optional[int] = None, queens: int = 0):
-        self.own, self.queens = own, queens
+    def __init__(self, own: Optional[int] = None, queens: int = 0, is_calm: bool = False):
+        self.own, self.queens, self.is_calm = own, queens, is_calm
         self.slices: dict[Key, Slice] = {}
         self.made: list[Slice] = []  # the same in their order
 
@@ -95,7 +99,7 @@ class Book:
         for side in (WHITE, BLACK):
             if not piece.valid[side]:
                 continue
-            for key, plane in steps(piece, side, piece.still == side):
+            for key, plane in steps(piece, side, piece.still == side, self.is_calm and side == self.own):
                 after = self.get(key)
                 piece.steps[side].append((after, plane))
                 after.before[side].append((piece, plane))
@@ -135,8 +139,9 @@ def moved(board: str, origin: int, to: int, man: str) -> str:
     return "".join(men)
 
 
-def steps(piece: Slice, side: int, is_frozen: bool = False) -> Iterator[tuple[Key, int]]:
-    """The moves of the side's men beside its king: the key after each, and the plane in which no king is in the way."""
+def steps(piece: Slice, side: int, is_frozen: bool = False, is_calm: bool = False) -> Iterator[tuple[Key, int]]:
+    """The moves of the side's men beside its king: the key after each, and the plane in which no king is in the way.
+    Frozen men but queens have none, and calm pieces but queens only take."""
     board, target = piece.key
     for square, man in piece.men:
         if man.isupper() != (side == WHITE) or is_frozen and man not in "Qq":
@@ -148,7 +153,7 @@ def steps(piece: Slice, side: int, is_frozen: bool = False) -> Iterator[tuple[Ke
         lines = LINES[kind][square] if kind in LINES else [[to] for to in LEAPS[kind][square]]
         for line in lines:
             for to in line:
-                if board[to] == EMPTY or board[to].isupper() != man.isupper():
+                if not is_calm or kind == "Q" if board[to] == EMPTY else board[to].isupper() != man.isupper():
                     yield (moved(board, square, to, man), NOWHERE), between(square, to) if kind in LINES else ALL
                 if board[to] != EMPTY:
                     break
