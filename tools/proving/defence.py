@@ -35,7 +35,7 @@ class Defence(Hunt):
         """Within how many plies the opponent is taken to win; at once where the side has a new man who is no queen."""
         board, before = piece.key[0], self.root.key[0]
         has_new = any(board.count(man) > before.count(man) for man in ("rbn", "RBN")[self.own])
-        return LEAST if has_new else worth(piece, self.own, self.par)[0]
+        return LEAST if has_new else worth(piece, self.own)[0]
 
     def is_natural(self, piece: Slice, after: Slice) -> bool:
         """Is it closed, and none that the opponent is likely to win?"""

@@ -13,12 +13,12 @@ from proving.sketch import Reached, Sketch
 from proving.slices import Book, Slice, bit_of, key_of
 from proving.tables import OutOfTime, used
 from proving.waves import SURE
-from proving.worth import EVEN, MOST, balance, family, has_pawns_alone, is_bare, is_contested, worth
+from proving.worth import EVEN, MOST, family, has_pawns_alone, is_bare, is_contested, worth
 
 MOST_DOUBTFUL = 2
 AGAIN = 40  # plies that a closed slice is dearer by each time that twice as many of its family are open
 MOST_OPENED = 60  # families at a time
-FRESH, PART = 5, 16  # slices that are opened before a guess: so many, or this part of all
+FRESH, PART = 10, 8  # slices that are opened before a guess: so many, or this part of all
 NEARLY = 50  # what is so much less dear than the dearest waits
 AT_ONCE, FEW = 200, 4  # slices of a family; the latter with several queens and rooks, or where the opponent has one
 
@@ -35,7 +35,6 @@ class Hunt:
         self.sketch = Sketch(self.book, self.own)
         self.side, self.bit = SIDES.index(position.turn), 1 << bit_of(position)
         self.root = self.book.get(key_of(position))
-        self.par = balance(self.root, self.own)
         self.width = 0
         self.opened = 0
         self.fresh: list[Slice] = []  # opened, and not yet settled
@@ -98,7 +97,7 @@ class Hunt:
 
     def is_natural(self, piece: Slice, after: Slice) -> bool:
         """May the closed slice be opened before anybody has asked for it: one of the same men, or of good worth?"""
-        return not after.is_open and (family(after) == family(piece) or self.is_plain(after) and worth(after, self.own, self.par)[0] <= EVEN)
+        return not after.is_open and (family(after) == family(piece) or self.is_plain(after) and worth(after, self.own)[0] <= EVEN)
 
     def is_plain(self, piece: Slice) -> bool:
         """Has nobody a new man but the side queens?"""
@@ -115,12 +114,12 @@ class Hunt:
         """What the closed slice is worth; of what is doubtful nothing at first, and of a bare king never."""
         if is_bare(piece, self.own) or self.doubt(piece) > self.width:
             return None
-        return self.price(piece), worth(piece, self.own, self.par)[1]
+        return self.price(piece), worth(piece, self.own)[1]
 
     def price(self, piece: Slice) -> int:
         """Within how many plies the side is taken to win in a closed slice: later the more of its family was seen, so
         that what cannot be taken back is tried before men only go to and fro."""
-        return min(worth(piece, self.own, self.par)[0] + int(AGAIN * log2(1 + self.known[family(piece)])), MOST)
+        return min(worth(piece, self.own)[0] + int(AGAIN * log2(1 + self.known[family(piece)])), MOST)
 
     def doubt(self, piece: Slice) -> int:
         """Of a new rook of the side's, or a new queen of the opponent's beside one of the side's; of its new bishops and

@@ -7,8 +7,8 @@ from proving.planes import BESIDE, BLACK, WHITE, union
 from proving.slices import Slice
 
 WORTH = {"Q": 9.0, "R": 5.0, "B": 3.0, "N": 3.0, "P": 1.0}
-EVEN, POINT = 400, 25  # the price of a slice of the first one's balance, and of a pawn
-LEAST, MOST = 100, 1500
+EVEN, POINT = 400, 25  # the price of an equal slice, and of a pawn
+LEAST, MOST = 10, 1500
 
 
 def family(piece: Slice) -> tuple:
@@ -33,20 +33,15 @@ def is_bare(piece: Slice, side: int) -> bool:
     return not any(man.isupper() == (side == WHITE) for _, man in piece.men)
 
 
-def worth(piece: Slice, own: int, par: float):
-    """Within how many plies the side is taken to win in a closed slice, and where; the sooner the more its men are better
-    than the par."""
+def worth(piece: Slice, own: int):
+    """Within how many plies the side is taken to win in a closed slice, and where; the better its men the sooner."""
     family(piece)
     if piece.kept[1] is None:
-        price = EVEN - int(POINT * (balance(piece, own) - par))
+        price = EVEN - POINT * int(strength(piece, own) - strength(piece, 1 - own))
         planes = list(piece.valid)
         planes[1 - own] &= ~hanging(piece, own)
         piece.kept[1] = min(max(price, LEAST), MOST), planes
     return piece.kept[1]
-
-
-def balance(piece: Slice, own: int) -> float:
-    return strength(piece, own) - strength(piece, 1 - own)
 
 
 def strength(piece: Slice, side: int) -> float:
